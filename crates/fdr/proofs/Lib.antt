@@ -1,0 +1,11 @@
+pub mod Cases
+pub mod Numbers
+pub mod Records
+pub mod Decoding
+pub mod Opening
+pub mod Walking
+pub mod Tracing
+pub mod Agreement
+pub mod Bounds
+pub mod Fields
+pub mod Visible

@@ -1,0 +1,79 @@
+-- Decoding depends only on the visible bytes of the record that it finds, but for an argument's value. Assumes nothing.
+use Prim.Native.Nat.{ℕ, zero, suc, _+_, _%_, _≤_}
+use mathlib.Core.Path.{_≡_, refl, sym, ap, _∙_, subst}
+use mathlib.Core.List.{List}
+use native.Mathlib.Omega.{arith}
+use Rattle.fdr.specs.Number.{byteAt, number}
+use Rattle.fdr.specs.Bits.{actionIn, kindIn, idIn}
+use Rattle.fdr.specs.Record.{visible}
+use Rattle.fdr.specs.Decoded.{Decoded, known, unknown, functionAt, metadataAt, decoded}
+use Rattle.fdr.specs.Hidden.{shown}
+use Rattle.fdr.specs.declared.record.Record.{Record}
+use Rattle.fdr.specs.declared.record.Record.the-variants.{Function, NewBuffer, EndOfBuffer, NewCpuId, TscWrap, WallTime, CustomEvent, CallArgument}
+use Rattle.fdr.proofs.Cases.{by-eq, by-lt}
+use Rattle.fdr.proofs.Numbers.{Agree, number-agree}
+use Rattle.fdr.proofs.Records.{visible-some}
+use Rattle.fdr.proofs.Decoding.{decoded-function, decoded-action, decoded-metadata}
+
+-- The same record but for an argument's value.
+pub record Like (r : Record) (d : Decoded) : Type 0 where
+  pub other : Record
+  pub is : d ≡ known other
+  pub same : shown r ≡ shown other
+
+module _ (s t : List ℕ) (p : ℕ) where
+  -- What the record of one log is in another that agrees with it on the visible bytes.
+  abbrev Kept : Decoded → Decoded → Type 0
+  Kept (known r) d = Agree s t p (p + visible r) → Like r d
+  Kept (unknown n) d = Unit
+
+  part : (n : ℕ) → Agree s t p (p + n) → (k at : ℕ) → p ≤ at → at + k ≤ p + n → number k s at ≡ number k t at
+  part n same k at lo hi = number-agree k s t at (λ i a b. same i (omega arith) (omega arith))
+
+  metadata-kept : (k : ℕ) → Kept (metadataAt s p k) (metadataAt t p k)
+  unfolding metadataAt shown
+  metadata-kept zero = λ same.
+      let a = part 3 same 2 (p + 1) (omega arith) (omega arith) in
+      record { other = NewBuffer (number 2 t (p + 1)); is = refl; same = ap NewBuffer a }
+  metadata-kept (suc zero) = λ same. record { other = EndOfBuffer; is = refl; same = refl }
+  metadata-kept (suc (suc zero)) = λ same.
+      let a : number 2 s (p + 1) ≡ number 2 t (p + 1) = part 11 same 2 (p + 1) (omega arith) (omega arith) in
+      let b : number 8 s (p + 3) ≡ number 8 t (p + 3) = part 11 same 8 (p + 3) (omega arith) (omega arith) in
+      record { other = NewCpuId (number 2 t (p + 1)) (number 8 t (p + 3)); is = refl; same = cc }
+  metadata-kept (suc (suc (suc zero))) = λ same.
+      let a = part 9 same 8 (p + 1) (omega arith) (omega arith) in
+      record { other = TscWrap (number 8 t (p + 1)); is = refl; same = ap TscWrap a }
+  metadata-kept (suc (suc (suc (suc zero)))) = λ same.
+      let a : number 8 s (p + 1) ≡ number 8 t (p + 1) = part 13 same 8 (p + 1) (omega arith) (omega arith) in
+      let b : number 4 s (p + 9) ≡ number 4 t (p + 9) = part 13 same 4 (p + 9) (omega arith) (omega arith) in
+      record { other = WallTime (number 8 t (p + 1)) (number 4 t (p + 9)); is = refl; same = cc }
+  metadata-kept (suc (suc (suc (suc (suc zero))))) = λ same.
+      let a : number 4 s (p + 1) ≡ number 4 t (p + 1) = part 13 same 4 (p + 1) (omega arith) (omega arith) in
+      let b : number 8 s (p + 5) ≡ number 8 t (p + 5) = part 13 same 8 (p + 5) (omega arith) (omega arith) in
+      record { other = CustomEvent (number 4 t (p + 1)) (number 8 t (p + 5)); is = refl; same = cc }
+  metadata-kept (suc (suc (suc (suc (suc (suc zero)))))) = λ same.
+      record { other = CallArgument (number 8 t (p + 1)); is = refl; same = refl }
+  metadata-kept (suc (suc (suc (suc (suc (suc (suc k))))))) = tt
+
+  function-kept : Kept (known (functionAt s p)) (known (functionAt t p))
+  unfolding functionAt shown
+  function-kept same =
+      let first : byteAt s p ≡ byteAt t p = same p (omega arith) (omega arith) in
+      let a : number 4 s p ≡ number 4 t p = part 8 same 4 p (omega arith) (omega arith) in
+      let b : number 4 s (p + 4) ≡ number 4 t (p + 4) = part 8 same 4 (p + 4) (omega arith) (omega arith) in
+      record { other = Function (actionIn (byteAt t p)) (idIn (number 4 t p)) (number 4 t (p + 4)); is = refl; same = rw (first, a, b) }
+
+  decoded-kept : byteAt s p ≡ byteAt t p → Kept (decoded s p) (decoded t p)
+  decoded-kept first =
+      by-eq (byteAt s p % 2) 0
+      (λ even. let even' : byteAt t p % 2 ≡ 0 = ap (λ (b : ℕ). b % 2) (sym first) ∙ even in
+      by-lt 3 (actionIn (byteAt s p))
+      (λ above. subst (λ (d : Decoded). Kept d (decoded t p)) (sym (decoded-action s p even above)) tt)
+      (λ l. subst (λ (d : Decoded). Kept d (decoded t p)) (sym (decoded-function s p even l))
+      (subst (λ (d : Decoded). Kept (known (functionAt s p)) d) (sym (decoded-function t p even' (rw first at l))) function-kept)))
+      (λ odd. subst (λ (d : Decoded). Kept d (decoded t p)) (sym (decoded-metadata s p odd))
+      (subst (λ (d : Decoded). Kept (metadataAt s p (kindIn (byteAt s p))) d) (sym (decoded-metadata t p (rw first at odd)))
+      (rw (sym first) (metadata-kept (kindIn (byteAt s p))))))
+
+  pub decoded-visible : (r : Record) → decoded s p ≡ known r → Agree s t p (p + visible r) → Like r (decoded t p)
+  decoded-visible r e same = subst (λ (d : Decoded). Kept d (decoded t p)) e (decoded-kept (same p (omega arith) (omega (arith, visible-some r)))) same

@@ -1,0 +1,88 @@
+-- `fdr::walk::admit` meets its contract: each answer by the law of the test that applies. Assumes nothing.
+use Rattle.fdr.proofs.Walking.{may-not, event-past, other-thread, crossed, went-on}
+use Rattle.fdr.proofs.Records.{not-kind}
+use Rattle.fdr.specs.Walk.{steppingOf}
+use Rattle.fdr.specs.Record.{kindOf}
+use mathlib.Core.List.{[], _∷_}
+use native.Mathlib.Omega.{arith}
+use mathlib.Core.Path.{sym, ap, _∙_}
+use borrow.Author.Needs.{needs}
+use Rattle.fdr.proofs.walk.admit.Statement.{statement}
+use Rattle.fdr.proofs.walk.admit.Tie as tie
+
+after-requires : tie.Need-after-requires
+after-requires c κs = search needs
+
+enum-known-followed : tie.Need-enum-known-followed
+enum-known-followed c = search needs
+
+enum-told : tie.Need-enum-told
+enum-told c = search needs
+
+refused-requires : tie.Need-refused-requires
+refused-requires c κs = search needs
+
+returns : tie.Need-returns
+returns c = ap steppingOf (c .refused .ensures) ∙ sym (may-not (c .before .before .before .before .args .at) (c .before .before .before .before .args .end) (c .before .before .before .before .args .«record») (c .before .before .before .before .args .behind) _ (sym (c .before .before .before .after .ensures) ∙ c .before .enum-told .given .1))
+
+event-size-requires : tie.Need-event-size-requires
+event-size-requires c κs = search needs
+
+sub-if1 : tie.Need-sub-if1
+sub-if1 c = search needs
+
+refused-requires-2 : tie.Need-refused-requires-2
+refused-requires-2 c κs = search needs
+
+returns-2 : tie.Need-returns-2
+returns-2 c = ap steppingOf (c .refused2 .ensures) ∙ sym (event-past (c .before .before .before .before .before .before .before .args .at) (c .before .before .before .before .before .before .before .args .end) (c .before .before .before .before .before .before .before .args .«record») (c .before .before .before .before .before .before .before .args .behind) _ _ (sym (c .before .before .before .before .before .before .after .ensures) ∙ c .before .before .before .before .followed .given .1) (omega (arith, c .before .if1 .taken, c .before .before .event-size .ensures, c .before .before .before .before .before .before .before .pre)))
+
+join-requires : tie.Need-join-requires
+join-requires c κs = search needs
+
+enum-known-joined : tie.Need-enum-known-joined
+enum-known-joined c = search needs
+
+enum-told-2 : tie.Need-enum-told-2
+enum-told-2 c = search needs
+
+refused-requires-3 : tie.Need-refused-requires-3
+refused-requires-3 c κs = search needs
+
+returns-3 : tie.Need-returns-3
+returns-3 c = ap steppingOf (c .refused3 .ensures) ∙ sym (other-thread (c .before .before .before .before .before .before .before .before .before .before .args .at) (c .before .before .before .before .before .before .before .before .before .before .args .end) (c .before .before .before .before .before .before .before .before .before .before .args .«record») (c .before .before .before .before .before .before .before .before .before .before .args .behind) _ _ (sym (c .before .before .before .before .before .before .before .before .before .after .ensures) ∙ c .before .before .before .before .before .before .before .followed .given .1) (omega (arith, c .before .before .before .before .if1 .left, c .before .before .before .before .before .event-size .ensures, c .before .before .before .before .before .before .before .before .before .before .pre)) (sym (c .before .before .before .join .ensures) ∙ c .before .enum-told2 .given .1))
+
+add-place-after : tie.Need-add-place-after
+add-place-after c = search needs
+
+enum-told-3 : tie.Need-enum-told-3
+enum-told-3 c = search needs
+
+returns-4 : tie.Need-returns-4
+returns-4 c = sym (crossed (c .before .before .before .before .before .before .before .before .before .before .before .before .args .at) (c .before .before .before .before .before .before .before .before .before .before .before .before .args .end) (c .before .before .before .before .before .before .before .before .before .before .before .before .args .«record») (c .before .before .before .before .before .before .before .before .before .before .before .before .args .behind) _ _ (sym (c .before .before .before .before .before .before .before .before .before .before .before .after .ensures) ∙ c .before .before .before .before .before .before .before .before .before .followed .given .1) (omega (arith, c .before .before .before .before .before .before .if1 .left, c .before .before .before .before .before .before .before .event-size .ensures, c .before .before .before .before .before .before .before .before .before .before .before .before .pre)) _ (sym (c .before .before .before .before .before .join .ensures) ∙ c .before .before .before .joined .given .1) (ap kindOf (c .enum-told3 .given .1)))
+
+returns-5 : tie.Need-returns-5
+returns-5 c = sym (went-on (c .before .before .before .before .before .before .before .before .before .before .before .args .at) (c .before .before .before .before .before .before .before .before .before .before .before .args .end) (c .before .before .before .before .before .before .before .before .before .before .before .args .«record») (c .before .before .before .before .before .before .before .before .before .before .before .args .behind) _ _ (sym (c .before .before .before .before .before .before .before .before .before .before .after .ensures) ∙ c .before .before .before .before .before .before .before .before .followed .given .1) (omega (arith, c .before .before .before .before .before .if1 .left, c .before .before .before .before .before .before .event-size .ensures, c .before .before .before .before .before .before .before .before .before .before .before .pre)) _ (sym (c .before .before .before .before .join .ensures) ∙ c .before .before .joined .given .1) _ (c .before .before .before .before .before .before .event-size .ensures) (not-kind 1 (0 ∷ 2 ∷ 3 ∷ 4 ∷ 5 ∷ 6 ∷ 7 ∷ []) (c .before .before .before .before .before .before .before .before .before .before .before .args .«record») tt (c .match3 .keys2)))
+
+pub admit-spec : {M : Type 1} → statement M
+admit-spec =
+    tie.close
+    (tie.spec
+    after-requires
+    enum-known-followed
+    enum-told
+    refused-requires
+    returns
+    event-size-requires
+    sub-if1
+    refused-requires-2
+    returns-2
+    join-requires
+    enum-known-joined
+    enum-told-2
+    refused-requires-3
+    returns-3
+    add-place-after
+    enum-told-3
+    returns-4
+    returns-5)

@@ -1,0 +1,14 @@
+pub mod Number
+pub mod Bits
+pub mod Refusal
+pub mod Record
+pub mod Table
+pub mod Decoded
+pub mod Header
+pub mod Reading
+pub mod Grammar
+pub mod Walk
+pub mod Trace
+pub mod Hidden
+pub mod Sample
+pub mod FirstByte

@@ -1,0 +1,25 @@
+-- The numbered refusals (paper 01, "The numbered refusals"). Assumes nothing.
+use Prim.Native.Nat.{ℕ}
+use Rattle.fdr.specs.declared.refusal.Refusal.{Refusal}
+use Rattle.fdr.specs.declared.refusal.Refusal.the-variants.{LogLength, Version, LogType, BufferSize, PastEnd, Unknown, Grammar, Thread, Clock, NoOpenCall, Depth, FunctionCount, Ticks, ShortTable, NoRoom, OutOfRange, NoUnit, NoMeasuredCall}
+
+-- The paper's number of each.
+abbrev pub numberOf : Refusal → ℕ
+numberOf LogLength = 1
+numberOf Version = 2
+numberOf LogType = 3
+numberOf BufferSize = 4
+numberOf PastEnd = 5
+numberOf Unknown = 6
+numberOf Grammar = 7
+numberOf Thread = 8
+numberOf Clock = 9
+numberOf NoOpenCall = 10
+numberOf Depth = 11
+numberOf FunctionCount = 12
+numberOf Ticks = 13
+numberOf ShortTable = 14
+numberOf NoRoom = 15
+numberOf OutOfRange = 16
+numberOf NoUnit = 17
+numberOf NoMeasuredCall = 18

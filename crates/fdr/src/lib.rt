@@ -1,0 +1,10 @@
+// The format of an XRay flight data recorder log: its records, its header, the record reader and
+// the walk from record to record. What each function answers is defined in specs/, on every input.
+mod decode;
+pub mod grammar;
+pub mod header;
+mod number;
+pub mod reader;
+pub mod record;
+pub mod refusal;
+pub mod walk;

@@ -1,0 +1,51 @@
+// The numbered refusals.
+ghost use mathlib.Core.Path.{_≡_};
+ghost use Rattle.fdr.specs.Refusal.{numberOf};
+
+pub enum Refusal {
+    LogLength,
+    Version,
+    LogType,
+    BufferSize,
+    PastEnd,
+    Unknown,
+    Grammar,
+    Thread,
+    Clock,
+    NoOpenCall,
+    Depth,
+    FunctionCount,
+    Ticks,
+    ShortTable,
+    NoRoom,
+    OutOfRange,
+    NoUnit,
+    NoMeasuredCall,
+}
+
+impl Refusal {
+    pub fn number(self) -> u64
+        ensures { λ r. ⌜ r ≡ numberOf self ⌝ }
+    {
+        match self {
+            Refusal::LogLength => 1,
+            Refusal::Version => 2,
+            Refusal::LogType => 3,
+            Refusal::BufferSize => 4,
+            Refusal::PastEnd => 5,
+            Refusal::Unknown => 6,
+            Refusal::Grammar => 7,
+            Refusal::Thread => 8,
+            Refusal::Clock => 9,
+            Refusal::NoOpenCall => 10,
+            Refusal::Depth => 11,
+            Refusal::FunctionCount => 12,
+            Refusal::Ticks => 13,
+            Refusal::ShortTable => 14,
+            Refusal::NoRoom => 15,
+            Refusal::OutOfRange => 16,
+            Refusal::NoUnit => 17,
+            Refusal::NoMeasuredCall => 18,
+        }
+    }
+}

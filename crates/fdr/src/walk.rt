@@ -1,0 +1,118 @@
+// The walk from record to record, over a position by value.
+ghost use mathlib.Core.Path.{_≡_};
+ghost use Prim.Native.Nat.{_≤_};
+ghost use Rattle.fdr.specs.Walk.{grammarTest, stepIn, next, steppingOf, startOf};
+ghost use Rattle.fdr.specs.Grammar.{follows};
+use crate::decode::record_at;
+use crate::grammar::Follow;
+use crate::grammar::Joined;
+use crate::grammar::Stage;
+use crate::grammar::Threads;
+use crate::grammar::after;
+use crate::grammar::join;
+use crate::header::Header;
+use crate::reader::Read;
+use crate::record::Record;
+use crate::refusal::Refusal;
+
+// Where the walk stands: a place of the log, the end of the buffer that it lies in (of no meaning in
+// front of a buffer), the size of each buffer, and what the records so far allow.
+pub struct Position {
+    pub place: usize,
+    pub end: usize,
+    pub size: usize,
+    pub stage: Stage,
+    pub threads: Threads,
+}
+
+pub enum Step {
+    // The log is over.
+    Over,
+    // A record, and the position behind it.
+    Found { record: Record, next: Position },
+    Refused { refusal: Refusal, place: usize },
+}
+
+// The position in front of the first buffer.
+pub fn start(header: Header) -> Position
+    ensures { λ r. ⌜ r ≡ startOf header ⌝ }
+{
+    Position {
+        place: Record::HEADER_SIZE,
+        end: Record::HEADER_SIZE,
+        size: header.buffer_size,
+        stage: Stage::Between,
+        threads: Threads::Unseen,
+    }
+}
+
+fn refused(refusal: Refusal, place: usize) -> Step
+    ensures { λ r. ⌜ r ≡ Step.Refused refusal place ⌝ }
+{
+    Step::Refused { refusal, place }
+}
+
+// Tests 7, 5 (its event) and 8 of a record that ends at `behind`.
+fn admit(at: Position, end: usize, record: Record, behind: usize) -> Step
+    requires { ⌜ behind ≤ end ⌝ }
+    ensures { λ r. ⌜ steppingOf r ≡ grammarTest (follows (at .stage) «record») at end «record» behind ⌝ }
+{
+    let place = at.place;
+    let at_stage = at.stage;
+    let followed = after(at_stage, record);
+    let Follow::To(stage) = followed else {
+        return refused(Refusal::Grammar, place);
+    };
+    let event = record.event_size();
+    if end - behind < event {
+        return refused(Refusal::PastEnd, place);
+    }
+    let at_threads = at.threads;
+    let joined = join(at_threads, record);
+    let Joined::Agreed(threads) = joined else {
+        return refused(Refusal::Thread, place);
+    };
+    let mut place_after = behind + event;
+    if let Record::EndOfBuffer = record {
+        place_after = end;
+    }
+    Step::Found {
+        record,
+        next: Position {
+            place: place_after,
+            end,
+            size: at.size,
+            stage,
+            threads,
+        },
+    }
+}
+
+// Tests 5 (no byte left), 6 and 5 (the record), then those of `admit`, in a buffer that ends at `end`.
+fn step_in(log: &[u8], at: Position, end: usize) -> Step
+    ensures { λ r. ⌜ steppingOf r ≡ stepIn (now (log .entry)) at end ⌝ }
+{
+    let read = record_at(log, end, at.place);
+    match read {
+        Read::Found { record, next } => admit(at, end, record, next),
+        Read::Refused { refusal, place } => refused(refusal, place),
+    }
+}
+
+// One step, from any position at all.
+pub fn next(log: &[u8], at: Position) -> Step
+    ensures { λ r. ⌜ steppingOf r ≡ next (now (log .entry)) at ⌝ }
+{
+    let stage = at.stage;
+    if let Stage::Between = stage {
+        let place = at.place;
+        if log.len() <= place {
+            return Step::Over;
+        }
+        if log.len() - place < at.size {
+            return refused(Refusal::PastEnd, place);
+        }
+        return step_in(log, at, place + at.size);
+    }
+    step_in(log, at, at.end)
+}

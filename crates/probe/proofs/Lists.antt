@@ -1,0 +1,53 @@
+-- Laws of the answers as lists. Assumes nothing.
+use Prim.Native.Nat.{ℕ, zero, suc, _-_, _≤_}
+use mathlib.Core.Path.{_≡_, refl, sym, ap, _∙_}
+use mathlib.Core.List.{List, [], _∷_}
+use native.Mathlib.Omega.{arith}
+use lib.ListN.{length, getD, List·getD-eq-default}
+use Rattle.fdr.specs.Header.{Opening, passed, failed}
+use Rattle.fdr.specs.Reading.{Reading, found, refused}
+use Rattle.fdr.specs.Walk.{Stepping, over, went, stopped}
+use Rattle.fdr.specs.declared.record.Record.{Record}
+use Rattle.fdr.specs.declared.record.Record.the-variants.{Function, NewBuffer, EndOfBuffer, NewCpuId, TscWrap, WallTime, CustomEvent, CallArgument}
+use Rattle.probe.specs.Numbers.{recordNumbers, openingNumbers, readingNumbers, steppingNumbers}
+
+-- The first four of a list.
+abbrev pub four : List ℕ → List ℕ
+four n = getD n 0 0 ∷ getD n 1 0 ∷ getD n 2 0 ∷ getD n 3 0 ∷ []
+
+four-all : (r : Record) → four (recordNumbers r) ≡ recordNumbers r
+four-all (NewBuffer t) = refl
+four-all EndOfBuffer = refl
+four-all (NewCpuId c t) = refl
+four-all (TscWrap t) = refl
+four-all (WallTime s m) = refl
+four-all (CustomEvent n t) = refl
+four-all (CallArgument v) = refl
+four-all (Function a f d) = refl
+
+pub four-of : (n : List ℕ) (r : Record) → n ≡ recordNumbers r → four n ≡ recordNumbers r
+four-of n r e = ap four e ∙ four-all r
+
+record-long : (r : Record) → length (recordNumbers r) ≡ 4
+record-long r = sym (ap length (four-all r))
+
+pub opening-long : (x : Opening) → length (openingNumbers x) ≡ 5
+opening-long (passed h) = refl
+opening-long (failed n) = refl
+
+pub reading-long : (x : Reading) → length (readingNumbers x) ≡ 6
+reading-long (found r next) = omega (arith, record-long r)
+reading-long (refused n place) = refl
+
+pub stepping-long : (x : Stepping) → length (steppingNumbers x) ≡ 10
+stepping-long over = refl
+stepping-long (went r q) = omega (arith, record-long r)
+stepping-long (stopped n place) = refl
+
+-- Past its end a list reads as 0.
+pub past : (l : List ℕ) (n i : ℕ) → length l ≡ n → n ≤ i → 0 ≡ getD l i 0
+past l n i long h = sym (List·getD-eq-default l 0 {n = i} (omega arith))
+
+pub behind-first : (x i : ℕ) (l : List ℕ) → (i ≡ 0 → ⊥) → getD l (i - 1) 0 ≡ getD (x ∷ l) i 0
+behind-first x zero l other = absurd (other refl)
+behind-first x (suc i) l other = ap (λ (k : ℕ). getD l k 0) (omega arith)

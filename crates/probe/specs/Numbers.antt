@@ -1,0 +1,80 @@
+-- The answers of the reader and the walk as lists of numbers. Assumes nothing.
+use Prim.Native.Nat.{ℕ}
+use mathlib.Core.Bool.{true, false}
+use mathlib.Core.List.{List, [], _∷_}
+use lib.Dec.{eqb, ltb}
+use lib.ListN.{length}
+use Rattle.fdr.specs.Header.{Opening, passed, failed}
+use Rattle.fdr.specs.Reading.{Reading, found, refused}
+use Rattle.fdr.specs.Walk.{Stepping, over, went, stopped}
+use Rattle.fdr.specs.declared.record.Record.{Record}
+use Rattle.fdr.specs.declared.record.Record.the-variants.{Function, NewBuffer, EndOfBuffer, NewCpuId, TscWrap, WallTime, CustomEvent, CallArgument}
+use Rattle.fdr.specs.declared.grammar.Stage.{Stage}
+use Rattle.fdr.specs.declared.grammar.Stage.the-variants.{Between, WallTimeNext, CpuNext, Body, Arguments}
+use Rattle.fdr.specs.declared.grammar.Threads.{Threads}
+use Rattle.fdr.specs.declared.grammar.Threads.the-variants.{Unseen, One}
+use Rattle.fdr.specs.declared.walk.Position.{Position}
+
+-- A record's kind, 7 for a function record, and its fields.
+abbrev pub recordNumbers : Record → List ℕ
+recordNumbers (NewBuffer thread) = 0 ∷ thread ∷ 0 ∷ 0 ∷ []
+recordNumbers EndOfBuffer = 1 ∷ 0 ∷ 0 ∷ 0 ∷ []
+recordNumbers (NewCpuId cpu tsc) = 2 ∷ cpu ∷ tsc ∷ 0 ∷ []
+recordNumbers (TscWrap tsc) = 3 ∷ tsc ∷ 0 ∷ 0 ∷ []
+recordNumbers (WallTime seconds micros) = 4 ∷ seconds ∷ micros ∷ 0 ∷ []
+recordNumbers (CustomEvent size tsc) = 5 ∷ size ∷ tsc ∷ 0 ∷ []
+recordNumbers (CallArgument argument) = 6 ∷ argument ∷ 0 ∷ 0 ∷ []
+recordNumbers (Function action id delta) = 7 ∷ action ∷ id ∷ delta ∷ []
+
+-- 0 and what was found, or the refusal's number and its place.
+abbrev pub openingNumbers : Opening → List ℕ
+openingNumbers (passed h) = 0 ∷ h .«constant_tsc» ∷ h .«nonstop_tsc» ∷ h .frequency ∷ h .«buffer_size» ∷ []
+openingNumbers (failed n) = n ∷ 0 ∷ 0 ∷ 0 ∷ 0 ∷ []
+
+abbrev pub readingNumbers : Reading → List ℕ
+readingNumbers (found r next) = 0 ∷ next ∷ recordNumbers r
+readingNumbers (refused n place) = n ∷ place ∷ 0 ∷ 0 ∷ 0 ∷ 0 ∷ []
+
+-- The length and the bytes.
+abbrev pub eventNumbers : List ℕ → List ℕ
+eventNumbers part = length part ∷ part
+
+abbrev pub stageNumber : Stage → ℕ
+stageNumber Between = 0
+stageNumber WallTimeNext = 1
+stageNumber CpuNext = 2
+stageNumber Body = 3
+stageNumber Arguments = 4
+
+abbrev pub threadNumber : Threads → ℕ
+threadNumber Unseen = 65536
+threadNumber (One thread) = thread
+
+-- 1000 where the log is over.
+abbrev pub steppingNumbers : Stepping → List ℕ
+steppingNumbers over = 1000 ∷ 0 ∷ 0 ∷ 0 ∷ 0 ∷ 0 ∷ 0 ∷ 0 ∷ 0 ∷ 0 ∷ []
+steppingNumbers (went r q) = 0 ∷ q .place ∷ q .end ∷ q .size ∷ stageNumber (q .stage) ∷ threadNumber (q .threads) ∷ recordNumbers r
+steppingNumbers (stopped n place) = n ∷ place ∷ 0 ∷ 0 ∷ 0 ∷ 0 ∷ 0 ∷ 0 ∷ 0 ∷ 0 ∷ []
+
+-- A position from numbers: any stage above 4 counts as 4, any thread above 65,535 as none seen.
+unfoldable pub stageOf : ℕ → Stage
+stageOf n = elim (eqb n 0) [
+  | true ↦ Between
+  | false ↦
+      elim (eqb n 1) [
+        | true ↦ WallTimeNext
+        | false ↦
+            elim (eqb n 2) [
+              | true ↦ CpuNext
+              | false ↦
+                  elim (eqb n 3) [ true ↦ Body | false ↦ Arguments ]
+            ]
+      ]
+]
+
+unfoldable pub threadsOf : ℕ → Threads
+threadsOf n = elim (ltb n 65536) [ true ↦ One n | false ↦ Unseen ]
+
+abbrev pub positionOf : ℕ → ℕ → ℕ → ℕ → ℕ → Position
+positionOf place end size stage thread =
+    record { place = place; end = end; size = size; stage = stageOf stage; threads = threadsOf thread }

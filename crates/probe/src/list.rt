@@ -1,0 +1,146 @@
+// Answers as lists of numbers, and positions from numbers.
+ghost use mathlib.Core.Path.{_≡_};
+ghost use Rattle.fdr.specs.Header.{openingOf};
+ghost use Rattle.fdr.specs.Reading.{readingOf};
+ghost use Rattle.fdr.specs.Walk.{steppingOf};
+ghost use Rattle.probe.specs.Numbers.{recordNumbers, openingNumbers, readingNumbers, steppingNumbers, stageNumber, threadNumber, stageOf, threadsOf, positionOf};
+use fdr::grammar::Stage;
+use fdr::grammar::Threads;
+use fdr::header::Opened;
+use fdr::reader::Read;
+use fdr::record::Record;
+use fdr::walk::Position;
+use fdr::walk::Step;
+
+fn record_numbers(record: Record) -> [u64; 4]
+    ensures { λ r. ⌜ r ≡ recordNumbers «record» ⌝ }
+{
+    match record {
+        Record::NewBuffer { thread } => [0, thread as u64, 0, 0],
+        Record::EndOfBuffer => [1, 0, 0, 0],
+        Record::NewCpuId { cpu, tsc } => [2, cpu as u64, tsc, 0],
+        Record::TscWrap { tsc } => [3, tsc, 0, 0],
+        Record::WallTime { seconds, micros } => [4, seconds, micros as u64, 0],
+        Record::CustomEvent { size, tsc } => [5, size as u64, tsc, 0],
+        Record::CallArgument { argument } => [6, argument, 0, 0],
+        Record::Function { action, id, delta } => [7, action as u64, id as u64, delta as u64],
+    }
+}
+
+pub fn opened_numbers(opened: Opened) -> [u64; 5]
+    ensures { λ r. ⌜ r ≡ openingNumbers (openingOf opened) ⌝ }
+{
+    match opened {
+        Opened::Passed(header) => [
+            0,
+            header.constant_tsc,
+            header.nonstop_tsc,
+            header.frequency,
+            header.buffer_size as u64,
+        ],
+        Opened::Refused(refusal) => [refusal.number(), 0, 0, 0, 0],
+    }
+}
+
+pub fn read_numbers(read: Read) -> [u64; 6]
+    ensures { λ r. ⌜ r ≡ readingNumbers (readingOf read) ⌝ }
+{
+    match read {
+        Read::Found { record, next } => {
+            let n = record_numbers(record);
+            [0, next as u64, n[0], n[1], n[2], n[3]]
+        }
+        Read::Refused { refusal, place } => [refusal.number(), place as u64, 0, 0, 0, 0],
+    }
+}
+
+fn stage_number(stage: Stage) -> u64
+    ensures { λ r. ⌜ r ≡ stageNumber stage ⌝ }
+{
+    match stage {
+        Stage::Between => 0,
+        Stage::WallTimeNext => 1,
+        Stage::CpuNext => 2,
+        Stage::Body => 3,
+        Stage::Arguments => 4,
+    }
+}
+
+fn thread_number(threads: Threads) -> u64
+    ensures { λ r. ⌜ r ≡ threadNumber threads ⌝ }
+{
+    match threads {
+        Threads::Unseen => 65536,
+        Threads::One(thread) => thread as u64,
+    }
+}
+
+pub fn step_numbers(step: Step) -> [u64; 10]
+    ensures { λ r. ⌜ r ≡ steppingNumbers (steppingOf step) ⌝ }
+{
+    match step {
+        Step::Over => [1000, 0, 0, 0, 0, 0, 0, 0, 0, 0],
+        Step::Found { record, next } => {
+            let n = record_numbers(record);
+            let at_stage = next.stage;
+            let stage = stage_number(at_stage);
+            let at_threads = next.threads;
+            let thread = thread_number(at_threads);
+            [
+                0,
+                next.place as u64,
+                next.end as u64,
+                next.size as u64,
+                stage,
+                thread,
+                n[0],
+                n[1],
+                n[2],
+                n[3],
+            ]
+        }
+        Step::Refused { refusal, place } => {
+            [refusal.number(), place as u64, 0, 0, 0, 0, 0, 0, 0, 0]
+        }
+    }
+}
+
+fn stage_of(number: u64) -> Stage
+    ensures { λ r. ⌜ r ≡ stageOf number ⌝ }
+{
+    if number == 0 {
+        return Stage::Between;
+    }
+    if number == 1 {
+        return Stage::WallTimeNext;
+    }
+    if number == 2 {
+        return Stage::CpuNext;
+    }
+    if number == 3 {
+        return Stage::Body;
+    }
+    Stage::Arguments
+}
+
+fn threads_of(number: u64) -> Threads
+    ensures { λ r. ⌜ r ≡ threadsOf number ⌝ }
+{
+    if number < 65536 {
+        Threads::One(number as u16)
+    } else {
+        Threads::Unseen
+    }
+}
+
+pub fn position_of(place: u64, end: u64, size: u64, stage: u64, thread: u64) -> Position
+    ensures { λ r. ⌜ r ≡ positionOf place end size stage thread ⌝ }
+{
+    Position {
+        place: place as usize,
+        end: end as usize,
+        size: size as usize,
+        stage: stage_of(stage),
+        threads: threads_of(thread),
+    }
+}

@@ -1,0 +1,16 @@
+//! A second, independent reading of trace logs after Paper 01: the header's
+//! tests, the record reader, and the walk from record to record with the
+//! grammar. It covers refusals 1 to 8. With it comes a generator of logs,
+//! sound and damaged, for comparing another implementation with this one.
+//!
+//! Nothing here is quick or clever: each function follows one passage of the
+//! paper and names it.
+
+#![forbid(unsafe_code)]
+
+pub mod generate;
+pub mod header;
+pub mod random;
+pub mod reader;
+pub mod record;
+pub mod walk;

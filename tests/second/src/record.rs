@@ -1,0 +1,126 @@
+//! Records and their bytes. Paper 01, "Bytes of a log".
+
+/// One record with the values it carries. Its hidden bytes are left out,
+/// except for a CallArgument's argument.
+#[derive(Debug, Clone, Copy, PartialEq, Eq)]
+pub enum Record {
+    Function { action: u8, id: u32, delta: u32 },
+    NewBuffer { thread: u16 },
+    EndOfBuffer,
+    NewCpuId { cpu: u16, tsc: u64 },
+    TscWrap { tsc: u64 },
+    WallTime { seconds: u64, micros: u32 },
+    CustomEvent { size: u32, tsc: u64 },
+    CallArgument { argument: u64 },
+}
+
+/// The action after which a run of CallArguments may stand.
+pub const ENTRY_ARGS: u8 = 3;
+
+impl Record {
+    /// The record's own bytes, without its event: 8 or 16.
+    pub fn size(&self) -> u64 {
+        match self {
+            Record::Function { .. } => 8,
+            _ => 16,
+        }
+    }
+
+    /// The bytes of event that follow the record.
+    pub fn event_size(&self) -> u64 {
+        match self {
+            Record::CustomEvent { size, .. } => u64::from(*size),
+            _ => 0,
+        }
+    }
+}
+
+/// The family of a record: "a record's first byte tells its family".
+#[derive(Debug, Clone, Copy, PartialEq, Eq)]
+pub enum Family {
+    /// Low bit 0, with the action.
+    Function(u8),
+    /// Low bit 1, with the kind.
+    Metadata(u8),
+}
+
+impl Family {
+    pub fn of(first: u8) -> Family {
+        if first & 1 == 0 {
+            Family::Function((first >> 1) & 0b111)
+        } else {
+            Family::Metadata(first >> 1)
+        }
+    }
+
+    /// Paper 01, "The numbered refusals": an action above 3 or a kind above 6
+    /// is refusal 6.
+    pub fn is_known(self) -> bool {
+        match self {
+            Family::Function(action) => action <= 3,
+            Family::Metadata(kind) => kind <= 6,
+        }
+    }
+
+    /// The size of any record of this family.
+    pub fn size(self) -> u64 {
+        match self {
+            Family::Function(_) => 8,
+            Family::Metadata(_) => 16,
+        }
+    }
+}
+
+/// The number in these bytes: "all numbers are little-endian".
+pub fn number(bytes: &[u8]) -> u64 {
+    let mut value = 0;
+    for byte in bytes.iter().rev() {
+        value = (value << 8) | u64::from(*byte);
+    }
+    value
+}
+
+/// The record at the start of these bytes. `None` where they are too few, or
+/// where the family is not a known one.
+pub fn decode(bytes: &[u8]) -> Option<Record> {
+    let family = Family::of(*bytes.first()?);
+    let bytes = bytes.get(..family.size() as usize)?;
+    match family {
+        Family::Function(action) if action <= 3 => Some(Record::Function {
+            action,
+            id: (number(&bytes[0..4]) >> 4) as u32,
+            delta: number(&bytes[4..8]) as u32,
+        }),
+        Family::Function(_) => None,
+        Family::Metadata(kind) => metadata(kind, &bytes[1..]),
+    }
+}
+
+/// The metadata record of this kind with these 15 data bytes.
+fn metadata(kind: u8, data: &[u8]) -> Option<Record> {
+    match kind {
+        0 => Some(Record::NewBuffer {
+            thread: number(&data[0..2]) as u16,
+        }),
+        1 => Some(Record::EndOfBuffer),
+        2 => Some(Record::NewCpuId {
+            cpu: number(&data[0..2]) as u16,
+            tsc: number(&data[2..10]),
+        }),
+        3 => Some(Record::TscWrap {
+            tsc: number(&data[0..8]),
+        }),
+        4 => Some(Record::WallTime {
+            seconds: number(&data[0..8]),
+            micros: number(&data[8..12]) as u32,
+        }),
+        5 => Some(Record::CustomEvent {
+            size: number(&data[0..4]) as u32,
+            tsc: number(&data[4..12]),
+        }),
+        6 => Some(Record::CallArgument {
+            argument: number(&data[0..8]),
+        }),
+        _ => None,
+    }
+}
