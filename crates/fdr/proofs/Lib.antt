@@ -1,4 +1,5 @@
 pub mod Cases
+pub mod Refusals
 pub mod Numbers
 pub mod Records
 pub mod Decoding
@@ -6,6 +7,6 @@ pub mod Opening
 pub mod Walking
 pub mod Tracing
 pub mod Agreement
+pub mod Visible
 pub mod Bounds
 pub mod Fields
-pub mod Visible

@@ -9,7 +9,8 @@ use Rattle.fdr.specs.Reading.{Reading, found, refused}
 use Rattle.fdr.specs.Walk.{Stepping, over, went, stopped}
 use Rattle.fdr.specs.declared.record.Record.{Record}
 use Rattle.fdr.specs.declared.record.Record.the-variants.{Function, NewBuffer, EndOfBuffer, NewCpuId, TscWrap, WallTime, CustomEvent, CallArgument}
-use Rattle.probe.specs.Numbers.{recordNumbers, openingNumbers, readingNumbers, steppingNumbers}
+use Rattle.replay.specs.Replay.{Verdict, report, refusal}
+use Rattle.probe.specs.Numbers.{verdictNumbers, recordNumbers, openingNumbers, readingNumbers, steppingNumbers}
 
 -- The first four of a list.
 abbrev pub four : List ℕ → List ℕ
@@ -43,6 +44,10 @@ pub stepping-long : (x : Stepping) → length (steppingNumbers x) ≡ 10
 stepping-long over = refl
 stepping-long (went r q) = omega (arith, record-long r)
 stepping-long (stopped n place) = refl
+
+pub verdict-long : (x : Verdict) → length (verdictNumbers x) ≡ 5
+verdict-long (report r b n o) = refl
+verdict-long (refusal n place) = refl
 
 -- Past its end a list reads as 0.
 pub past : (l : List ℕ) (n i : ℕ) → length l ≡ n → n ≤ i → 0 ≡ getD l i 0

@@ -1,4 +1,4 @@
--- The answers of the reader and the walk as lists of numbers. Assumes nothing.
+-- The answers of the reader, the walk and the replay as lists of numbers. Assumes nothing.
 use Prim.Native.Nat.{ℕ}
 use mathlib.Core.Bool.{true, false}
 use mathlib.Core.List.{List, [], _∷_}
@@ -7,6 +7,7 @@ use lib.ListN.{length}
 use Rattle.fdr.specs.Header.{Opening, passed, failed}
 use Rattle.fdr.specs.Reading.{Reading, found, refused}
 use Rattle.fdr.specs.Walk.{Stepping, over, went, stopped}
+use Rattle.replay.specs.Replay.{Verdict, report, refusal}
 use Rattle.fdr.specs.declared.record.Record.{Record}
 use Rattle.fdr.specs.declared.record.Record.the-variants.{Function, NewBuffer, EndOfBuffer, NewCpuId, TscWrap, WallTime, CustomEvent, CallArgument}
 use Rattle.fdr.specs.declared.grammar.Stage.{Stage}
@@ -78,3 +79,8 @@ threadsOf n = elim (ltb n 65536) [ true ↦ One n | false ↦ Unseen ]
 abbrev pub positionOf : ℕ → ℕ → ℕ → ℕ → ℕ → Position
 positionOf place end size stage thread =
     record { place = place; end = end; size = size; stage = stageOf stage; threads = threadsOf thread }
+
+-- 0 and the counts of rows, buffers, records and open calls, or the refusal's number and its place.
+abbrev pub verdictNumbers : Verdict → List ℕ
+verdictNumbers (report rows buffers records calls) = 0 ∷ rows ∷ buffers ∷ records ∷ calls ∷ []
+verdictNumbers (refusal n place) = n ∷ place ∷ 0 ∷ 0 ∷ 0 ∷ []

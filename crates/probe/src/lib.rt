@@ -1,4 +1,4 @@
-// The reader and the walk on numbers and byte slices, for tests and benchmarks in other languages.
+// The reader, the walk and the replay on numbers and byte slices, for tests and benchmarks in other languages.
 // Each function answers one number, the `which`-th of its answer written as a list (specs/Numbers.antt),
 // and 0 past the list's end.
 mod list;
@@ -8,7 +8,9 @@ ghost use lib.ListN.{getD};
 ghost use Rattle.fdr.specs.Header.{openedWithin, longest};
 ghost use Rattle.fdr.specs.Reading.{reading, eventAt};
 ghost use Rattle.fdr.specs.Walk.{next};
-ghost use Rattle.probe.specs.Numbers.{openingNumbers, readingNumbers, eventNumbers, steppingNumbers, positionOf};
+ghost use Rattle.probe.specs.Numbers.{openingNumbers, readingNumbers, eventNumbers, steppingNumbers, positionOf, verdictNumbers};
+ghost use Rattle.replay.specs.Replay.{answer, tableAfter};
+use list::answer_numbers;
 use list::opened_numbers;
 use list::position_of;
 use list::read_numbers;
@@ -65,6 +67,19 @@ pub extern "C" fn probe_next(
     let at = position_of(place, end, size, stage, thread);
     let numbers = step_numbers(fdr::walk::next(log, at));
     if which < 10 {
+        numbers[which as usize]
+    } else {
+        0
+    }
+}
+
+#[no_mangle]
+pub extern "C" fn probe_replay(log: &[u8], table: &mut [u64], which: u64) -> u64
+    ensures { λ r. ⌜ r ≡ getD (verdictNumbers (answer (now (log .entry)) (now (table .entry)))) which 0 ⌝ }
+    ensures { λ r. ⌜ now (table .exit) ≡ tableAfter (now (log .entry)) (now (table .entry)) ⌝ }
+{
+    let numbers = answer_numbers(replay::replay(log, table));
+    if which < 5 {
         numbers[which as usize]
     } else {
         0

@@ -3,7 +3,8 @@ ghost use mathlib.Core.Path.{_≡_};
 ghost use Rattle.fdr.specs.Header.{openingOf};
 ghost use Rattle.fdr.specs.Reading.{readingOf};
 ghost use Rattle.fdr.specs.Walk.{steppingOf};
-ghost use Rattle.probe.specs.Numbers.{recordNumbers, openingNumbers, readingNumbers, steppingNumbers, stageNumber, threadNumber, stageOf, threadsOf, positionOf};
+ghost use Rattle.replay.specs.Replay.{verdictOf};
+ghost use Rattle.probe.specs.Numbers.{verdictNumbers, recordNumbers, openingNumbers, readingNumbers, steppingNumbers, stageNumber, threadNumber, stageOf, threadsOf, positionOf};
 use fdr::grammar::Stage;
 use fdr::grammar::Threads;
 use fdr::header::Opened;
@@ -11,6 +12,7 @@ use fdr::reader::Read;
 use fdr::record::Record;
 use fdr::walk::Position;
 use fdr::walk::Step;
+use replay::Answer;
 
 fn record_numbers(record: Record) -> [u64; 4]
     ensures { λ r. ⌜ r ≡ recordNumbers «record» ⌝ }
@@ -142,5 +144,19 @@ pub fn position_of(place: u64, end: u64, size: u64, stage: u64, thread: u64) -> 
         size: size as usize,
         stage: stage_of(stage),
         threads: threads_of(thread),
+    }
+}
+
+pub fn answer_numbers(answer: Answer) -> [u64; 5]
+    ensures { λ r. ⌜ r ≡ verdictNumbers (verdictOf answer) ⌝ }
+{
+    match answer {
+        Answer::Report {
+            rows,
+            buffers,
+            records,
+            open,
+        } => [0, rows, buffers, records, open],
+        Answer::Refused { refusal, place } => [refusal.number(), place, 0, 0, 0],
     }
 }

@@ -138,7 +138,7 @@ fn plan(random: &mut Random, least: usize, fewest: usize) -> Plan {
 }
 
 /// A good header. Paper 01, "Bytes of a log".
-fn header(random: &mut Random, buffer_size: u64) -> Vec<u8> {
+pub(crate) fn header(random: &mut Random, buffer_size: u64) -> Vec<u8> {
     let mut bytes = vec![1, 0, 1, 0];
     let bits = match random.below(3) {
         0 => random.number() as u32,
@@ -153,7 +153,7 @@ fn header(random: &mut Random, buffer_size: u64) -> Vec<u8> {
 
 /// The bytes of a record, with hidden ones that are zero or random. Paper 01,
 /// "Bytes of a log".
-fn encode(random: &mut Random, record: Record) -> Vec<u8> {
+pub(crate) fn encode(random: &mut Random, record: Record) -> Vec<u8> {
     if let Record::Function { action, id, delta } = record {
         let word = (id << 4) | (u32::from(action) << 1);
         return [word.to_le_bytes(), delta.to_le_bytes()].concat();

@@ -8,9 +8,12 @@
 
 #![forbid(unsafe_code)]
 
+pub mod calls;
+pub mod compare;
 pub mod generate;
 pub mod header;
 pub mod random;
 pub mod reader;
 pub mod record;
+pub mod replay;
 pub mod walk;

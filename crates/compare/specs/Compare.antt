@@ -1,0 +1,43 @@
+-- The comparison of two times (paper 01, "Writer and comparison" and "The numbered refusals"). Assumes nothing.
+use Prim.Native.Nat.{ℕ, _*_}
+use mathlib.Core.Bool.{Bool, true, false, _||_}
+use lib.Dec.{eqb, leb, ltb}
+use Rattle.fdr.specs.Refusal.{numberOf}
+use Rattle.compare.specs.declared.Side.{Side}
+use Rattle.compare.specs.declared.Compared.{Compared}
+use Rattle.compare.specs.declared.Compared.the-variants.{Lower, Equal, Higher, Refused}
+
+pub data Comparison : Type 0 where
+  lower : Comparison
+  equal : Comparison
+  higher : Comparison
+  refused : ℕ → Comparison
+
+-- What the answer of the code says.
+abbrev pub comparisonOf : Compared → Comparison
+comparisonOf Lower = lower
+comparisonOf Equal = equal
+comparisonOf Higher = higher
+comparisonOf (Refused refusal) = refused (numberOf refusal)
+
+-- 17: "either side has frequency 0 or constant_tsc 0"
+abbrev pub noUnit : Side → Bool
+noUnit x = eqb (x .frequency) 0 || eqb (x .«constant_tsc») 0
+
+-- 18: "either side has no measured call, that is closed is not above backward"
+abbrev pub noMeasuredCall : Side → Bool
+noMeasuredCall x = leb (x .closed) (x .backward)
+
+unfoldable pub byNumbers : ℕ → ℕ → Comparison
+byNumbers m n = elim (ltb m n) [ true ↦ lower | false ↦ elim (eqb m n) [ true ↦ equal | false ↦ higher ] ]
+
+-- "It tests 17, then 18, and answers lower, equal or higher by the whole numbers ticksA times frequencyB and
+-- ticksB times frequencyA, whose products can need 128 bits."
+unfoldable pub compared : Side → Side → Comparison
+compared a b = elim (noUnit a || noUnit b) [
+  | true ↦ refused 17
+  | false ↦ elim (noMeasuredCall a || noMeasuredCall b) [
+    | true ↦ refused 18
+    | false ↦ byNumbers (a .ticks * b .frequency) (b .ticks * a .frequency)
+  ]
+]

@@ -1,0 +1,79 @@
+-- The starred samples (paper 01, "Sample logs") as a single statement about the definitions of replay and of the
+-- comparison. Each replay is lent 6,145 numbers, all 7. Assumes nothing.
+use Prim.Native.Nat.{ℕ, _-_, _^_}
+use mathlib.Core.Path.{_≡_, refl}
+use mathlib.Core.List.{List, [], _∷_, _++_}
+use lib.ListN.{length, take, replicate}
+use Rattle.fdr.specs.Number.{number, bytesOf}
+use Rattle.fdr.specs.Decoded.{functionAt, metadataAt, decoded}
+use Rattle.fdr.specs.Header.{headerOf, headerTests, openedWithin}
+use Rattle.fdr.specs.Reading.{sizeTest, recordAt}
+use Rattle.fdr.specs.Walk.{stepIn, next}
+use Rattle.fdr.specs.Trace.{walked, traceFrom, traceWithin}
+use Rattle.fdr.specs.Sample.{zeros, headerBytes, metadataBytes, functionBytes, cpuBytes, logBytes, sampleB, sampleWrongExit, sampleAbandoned, sampleBackward, sampleNested, sampleShortest, sampleTooShort, sampleClock, sampleArgument}
+use Rattle.replay.specs.Row.{rowOf, flat, tableOf}
+use Rattle.replay.specs.Row.{zeros as blanks}
+use Rattle.replay.specs.Stack.{nearest, abandonAll}
+use Rattle.replay.specs.Step.{enteredIn, entered, closed, leftTo, left, called, moved, step}
+use Rattle.replay.specs.Replay.{report, refusal, replayed, meaning, recordsIn, buffersIn, answer, tableAfter}
+use Rattle.compare.specs.Sample.{Comparisons, comparisons}
+
+unfoldable pub lent : List ℕ
+lent = replicate 6145 7
+
+-- A log is accepted, with these rows and counts: rows, then zeros, then the number past them.
+pub record Accepted (log : List ℕ) (rows : List ℕ) (count buffers records calls : ℕ) : Type 0 where
+  pub counts : answer log lent ≡ report count buffers records calls
+  pub table : tableAfter log lent ≡ rows ++ (replicate (6144 - length rows) 0 ++ (7 ∷ []))
+
+-- A log is refused, and the table is cleared.
+pub record Refused (log : List ℕ) (n place : ℕ) : Type 0 where
+  pub number : answer log lent ≡ refusal n place
+  pub table : tableAfter log lent ≡ replicate 6144 0 ++ (7 ∷ [])
+
+pub record StarredSamples : Type 0 where
+  -- "A bare header: no rows, all counts 0."
+  pub bare : Accepted (headerBytes 96) [] 0 0 0 0
+  -- "31 bytes: 1."
+  pub short : Refused (take 31 (headerBytes 96)) 1 0
+  -- "one row 5, 1, 1, 0, 0, 30; 1 buffer, 6 records, 0 open"
+  pub b : Accepted sampleB (5 ∷ 1 ∷ 1 ∷ 0 ∷ 0 ∷ 30 ∷ []) 1 1 6 0
+  -- "B with id 6 in its Exit: 10 at place 88."
+  pub wrongExit : Refused sampleWrongExit 10 88
+  -- "Entry 1, Entry 2, Exit 1: row 2 has abandoned 1."
+  pub abandoned : Accepted sampleAbandoned (1 ∷ 1 ∷ 1 ∷ 0 ∷ 0 ∷ 0 ∷ 2 ∷ 1 ∷ 0 ∷ 0 ∷ 1 ∷ 0 ∷ []) 2 1 7 0
+  -- "Entry at 1000, NewCPUId 500, Exit with delta 0: backward 1, ticks 0."
+  pub backward : Accepted sampleBackward (5 ∷ 1 ∷ 1 ∷ 1 ∷ 0 ∷ 0 ∷ []) 1 1 7 0
+  -- "Function 5 entered at 1000 and 1010, exits at 1015 and 1020: ticks 25."
+  pub nested : Accepted sampleNested (5 ∷ 2 ∷ 2 ∷ 0 ∷ 0 ∷ 25 ∷ []) 1 1 8 0
+  -- "buffer_size 64 with only the four required records is accepted; 63 is 4."
+  pub shortest : Accepted sampleShortest [] 0 1 4 0
+  pub tooShort : Refused sampleTooShort 4 0
+  -- "Clock 2^64 - 1: delta 0 passes, delta 1 is 9."
+  pub clock : Accepted (sampleClock 0) (5 ∷ 1 ∷ 0 ∷ 0 ∷ 0 ∷ 0 ∷ []) 1 1 5 1
+  pub clockPast : Refused (sampleClock 1) 9 80
+  -- "CallArgument after Entry: 7; after Entry_Args: taken."
+  pub argument : Refused (sampleArgument 0) 7 88
+  pub argumentTaken : Accepted (sampleArgument 3) (5 ∷ 1 ∷ 0 ∷ 0 ∷ 0 ∷ 0 ∷ []) 1 1 6 1
+  -- "30 ticks at 3,000,000,000 Hz against 20 at 1,000,000,000 Hz: lower." "Ticks and frequency 2^64 - 1 on both
+  -- sides: equal."
+  pub compared : Comparisons
+
+pub starredSamples : StarredSamples
+unfolding lent zeros bytesOf headerBytes metadataBytes functionBytes cpuBytes logBytes sampleB sampleWrongExit sampleAbandoned sampleBackward sampleNested sampleShortest sampleTooShort sampleClock sampleArgument number functionAt metadataAt decoded headerOf headerTests openedWithin sizeTest recordAt stepIn next walked traceFrom traceWithin rowOf flat blanks tableOf nearest abandonAll enteredIn entered closed leftTo left called moved step replayed meaning recordsIn buffersIn answer tableAfter
+starredSamples = record {
+  bare = record { counts = refl; table = refl };
+  short = record { number = refl; table = refl };
+  b = record { counts = refl; table = refl };
+  wrongExit = record { number = refl; table = refl };
+  abandoned = record { counts = refl; table = refl };
+  backward = record { counts = refl; table = refl };
+  nested = record { counts = refl; table = refl };
+  shortest = record { counts = refl; table = refl };
+  tooShort = record { number = refl; table = refl };
+  clock = record { counts = refl; table = refl };
+  clockPast = record { number = refl; table = refl };
+  argument = record { number = refl; table = refl };
+  argumentTaken = record { counts = refl; table = refl };
+  compared = comparisons;
+}

@@ -1,0 +1,1 @@
+// What the crates promise together: no code of its own, see specs/.

@@ -1,0 +1,5 @@
+pub mod Row
+pub mod Stack
+pub mod Step
+pub mod Replay
+pub mod View

@@ -1,0 +1,58 @@
+// The lent table: rows of six numbers, at row times six.
+ghost use mathlib.Core.Path.{_≡_};
+ghost use mathlib.Core.List.{[]};
+ghost use Prim.Native.Nat.{ℕ, _+_, _*_, _^_, _<_, _≤_};
+ghost use lib.ListN.{length, getD, set};
+ghost use Rattle.replay.specs.Row.{tableOf, rowOf};
+ghost use Rattle.replay.specs.View.{rowsIn};
+
+// The numbers of a row, and their columns: id, entered, closed, backward, abandoned, ticks.
+pub const WIDTH: usize = 6;
+
+pub const ENTERED: usize = 1;
+
+pub const CLOSED: usize = 2;
+
+pub const BACKWARD: usize = 3;
+
+pub const ABANDONED: usize = 4;
+
+pub const TICKS: usize = 5;
+
+pub const MOST_ROWS: usize = 1024;
+
+// The numbers of the table that are written.
+pub const CELLS: usize = 6144;
+
+pub fn clear(table: &mut [u64])
+    requires { ⌜ 6144 ≤ length (now table) ⌝ }
+    ensures { λ _. ⌜ now (table .exit) ≡ tableOf [] (now (table .entry)) ⌝ }
+{
+    let mut i: usize = 0;
+    while i < CELLS {
+        table[i] = 0;
+        i += 1;
+    }
+}
+
+// The row of a function, or the number of rows where it has none.
+pub fn find_row(table: &[u64], rows: usize, id: u64) -> usize
+    requires { ⌜ rows * 6 ≤ length (now table) ⌝ }
+    ensures { λ r. ⌜ r ≡ rowOf (rowsIn rows (now (table .entry))) id ⌝ }
+{
+    let mut r: usize = 0;
+    while r < rows {
+        if table[r * WIDTH] == id {
+            return r;
+        }
+        r += 1;
+    }
+    r
+}
+
+pub fn bump(table: &mut [u64], i: usize)
+    requires { ⌜ (i < length (now table)) × (getD (now table) i 0 + 1 < 2 ^ 64) ⌝ }
+    ensures { λ _. ⌜ now (table .exit) ≡ set (now (table .entry)) i (getD (now (table .entry)) i 0 + 1) ⌝ }
+{
+    table[i] = table[i] + 1;
+}

@@ -1,0 +1,16 @@
+-- What the numbers of the C interface mean. Assumes nothing.
+use Prim.Native.Nat.{ℕ}
+use Rattle.compare.specs.Compare.{Comparison, lower, equal, higher, refused}
+use Rattle.compare.specs.declared.Side.{Side}
+
+-- "lower, equal or higher", or the refusal's number. No refusal has the number 0, 1 or 2 here: they are 17 and 18.
+abbrev pub orderNumber : Comparison → ℕ
+orderNumber lower = 0
+orderNumber equal = 1
+orderNumber higher = 2
+orderNumber (refused n) = n
+
+-- "Comparison takes from each side frequency, constant_tsc, closed, backward and ticks."
+abbrev pub sideOf : ℕ → ℕ → ℕ → ℕ → ℕ → Side
+sideOf frequency constant closed backward ticks =
+    record { frequency = frequency; «constant_tsc» = constant; closed = closed; backward = backward; ticks = ticks }

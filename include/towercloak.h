@@ -1,0 +1,47 @@
+/* Towercloak: exact comparison of times measured in XRay flight data recorder logs.
+ *
+ * Link with libtowercloak.a (`rt staticlib towercloak` writes it to target/staticlib/).
+ * Every function may be handed any numbers at all; it keeps no state and touches no memory of the
+ * caller's but what it is lent.
+ */
+#ifndef TOWERCLOAK_H
+#define TOWERCLOAK_H
+
+#include <stdint.h>
+
+#ifdef __cplusplus
+extern "C" {
+#endif
+
+/* What towercloak_compare answers. */
+enum {
+    TOWERCLOAK_LOWER = 0,
+    TOWERCLOAK_EQUAL = 1,
+    TOWERCLOAK_HIGHER = 2,
+    TOWERCLOAK_NO_UNIT = 17,          /* a side's ticks have no unit */
+    TOWERCLOAK_NO_MEASURED_CALL = 18  /* a side has no call that was measured */
+};
+
+/* Compares the time of side a with that of side b, where a time is ticks over frequency.
+ *
+ * Of each side: the log's cycle_frequency in Hz, its flag constant_tsc (0, or any other number if it is
+ * set), and of the function's row the numbers of closed and of backward calls and the sum of ticks.
+ *
+ * TOWERCLOAK_NO_UNIT           a frequency or a constant_tsc is 0, on either side
+ * TOWERCLOAK_NO_MEASURED_CALL  else, closed is not above backward, on either side
+ * TOWERCLOAK_LOWER             else, ticks_a * frequency_b <  ticks_b * frequency_a
+ * TOWERCLOAK_EQUAL             else, they are equal
+ * TOWERCLOAK_HIGHER            else
+ *
+ * The products are whole numbers of up to 128 bits: nothing is rounded or cut.
+ */
+uint32_t towercloak_compare(uint64_t frequency_a, uint64_t constant_tsc_a, uint64_t closed_a,
+                            uint64_t backward_a, uint64_t ticks_a,
+                            uint64_t frequency_b, uint64_t constant_tsc_b, uint64_t closed_b,
+                            uint64_t backward_b, uint64_t ticks_b);
+
+#ifdef __cplusplus
+}
+#endif
+
+#endif
