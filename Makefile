@@ -1,11 +1,9 @@
-# `make run` proves and builds, and runs the main job on the samples. `make test` runs every test.
+# `make run` proves and builds, and replays a sample. `make test` runs every test.
 .PHONY: run test
 
 run:
-	tests/packages
-	rt check
-	rt staticlib probe
-	cd tests/differential && cargo run --offline --quiet --release -- 2000 --samples ../../samples
+	rt check replay_stdin
+	target/bin/replay_stdin < samples/b.fdr
 
 test:
 	@tests/run

@@ -3,11 +3,11 @@ use Prim.Native.Nat.{ℕ, _+_, _-_, _*_, _^_, _<_, _≤_}
 use mathlib.Core.Bool.{Bool, true, false}
 use lib.Dec.{ltb}
 use mir.Val.{boolByte}
-use mathlib.Core.Path.{_≡_, refl, sym, ap, _∙_}
+use mathlib.Core.Path.{_≡_, sym, _∙_}
 use native.Mathlib.Omega.{arith}
 use borrow.Author.Tests.{lt-ltb, le-ltb}
 use Rattle.fdr.proofs.Cases.{by-lt}
-use Rattle.compare.specs.Compare.{Comparison, lower, equal, higher, byNumbers}
+use Rattle.compare.specs.Compare.{lower, equal, higher, byNumbers}
 use Rattle.compare.specs.Wide.{rankOf}
 use Rattle.compare.proofs.Orders.{is-lower, is-equal, is-higher}
 use Rattle.compare.proofs.Products.{high-first}

@@ -1,6 +1,6 @@
 -- A number of two words: no reader of the promises needs this file. Assumes nothing.
 use Prim.Native.Nat.{ℕ, _+_, _*_, _^_}
-use mathlib.Core.Bool.{Bool, true, false}
+use mathlib.Core.Bool.{true, false}
 use lib.Dec.{ltb}
 use Rattle.compare.specs.declared.wide.Wide.{Wide}
 

@@ -3,7 +3,7 @@ ghost use mathlib.Core.Path.{_≡_};
 ghost use Prim.Native.Nat.{ℕ, _+_, _*_, _^_, _<_, _≤_};
 ghost use lib.ListN.{length};
 ghost use Rattle.replay.specs.Step.{entered, left, moved, step};
-ghost use Rattle.replay.specs.View.{RowsBelow, Bounded, Nearest, Abandoned, Sound, viewed, outcomeOf, Next, After, Fresh};
+ghost use Rattle.replay.specs.View.{RowsBelow, Bounded, Nearest, Abandoned, Sound, viewed, outcomeOf, Next, After, Fresh, passed, refusedBy};
 use crate::table::ABANDONED;
 use crate::table::BACKWARD;
 use crate::table::CLOSED;
@@ -77,12 +77,35 @@ impl Calls {
         }
     }
 
-    // Tests 11 and 12, and opens a call.
-    fn enter(mut self, table: &mut [u64], id: u64) -> Self
-        requires { ⌜ Sound 300 self (now table) ⌝ }
-        ensures same { λ r. ⌜ outcomeOf r (now (table .exit)) ≡ entered (viewed self (now (table .entry))) id ⌝ }
-        ensures next { λ r. ⌜ Next self (now (table .entry)) r (now (table .exit)) ⌝ }
+    // Past a record that changes no call.
+    fn pass(mut self, clock: u64, more: u64) -> Self
+        requires { ⌜ (self .records < 2 ^ 24) × (self .buffers ≤ self .records) × (more ≤ 1) ⌝ }
+        ensures { λ r. ⌜ r ≡ passed self clock (self .buffers + more) ⌝ }
     {
+        self.clock = clock;
+        self.records = self.records + 1;
+        self.buffers = self.buffers + more;
+        self
+    }
+
+    // Past a record that is refused.
+    fn refuse(mut self, number: u64) -> Self
+        requires { ⌜ self .records < 2 ^ 24 ⌝ }
+        ensures { λ r. ⌜ r ≡ refusedBy self number ⌝ }
+    {
+        self.records = self.records + 1;
+        self.refused = number;
+        self
+    }
+
+    // Tests 11 and 12, and opens a call at a clock.
+    fn enter(mut self, table: &mut [u64], id: u64, clock: u64) -> Self
+        requires { ⌜ Sound 0 self (now table) × (self .records < 2 ^ 24) ⌝ }
+        ensures same { λ r. ⌜ outcomeOf r (now (table .exit)) ≡ entered (viewed (passed self clock (self .buffers)) (now (table .entry))) id ⌝ }
+        ensures next { λ r. ⌜ Next (passed self clock (self .buffers)) (now (table .entry)) r (now (table .exit)) ⌝ }
+    {
+        self.clock = clock;
+        self.records = self.records + 1;
         let depth = self.depth;
         let rows = self.rows;
         if DEEPEST <= depth {
@@ -92,7 +115,7 @@ impl Calls {
         let r = find_row(table, rows, id);
         if r < rows {
             bump(table, r * WIDTH + ENTERED);
-            self.since[depth] = self.clock;
+            self.since[depth] = clock;
             self.row[depth] = r as u16;
             self.depth = depth + 1;
             return self;
@@ -103,19 +126,21 @@ impl Calls {
         }
         table[r * WIDTH] = id;
         table[r * WIDTH + ENTERED] = 1;
-        self.since[depth] = self.clock;
+        self.since[depth] = clock;
         self.row[depth] = r as u16;
         self.depth = depth + 1;
         self.rows = rows + 1;
         self
     }
 
-    // Tests 10 and 13, and closes a call.
-    fn leave(mut self, table: &mut [u64], id: u64) -> Self
-        requires { ⌜ Sound 300 self (now table) ⌝ }
-        ensures same { λ r. ⌜ outcomeOf r (now (table .exit)) ≡ left (viewed self (now (table .entry))) id ⌝ }
-        ensures next { λ r. ⌜ Next self (now (table .entry)) r (now (table .exit)) ⌝ }
+    // Tests 10 and 13, and closes a call at a clock.
+    fn leave(mut self, table: &mut [u64], id: u64, clock: u64) -> Self
+        requires { ⌜ Sound 0 self (now table) × (self .records < 2 ^ 24) ⌝ }
+        ensures same { λ r. ⌜ outcomeOf r (now (table .exit)) ≡ left (viewed (passed self clock (self .buffers)) (now (table .entry))) id ⌝ }
+        ensures next { λ r. ⌜ Next (passed self clock (self .buffers)) (now (table .entry)) r (now (table .exit)) ⌝ }
     {
+        self.clock = clock;
+        self.records = self.records + 1;
         let depth = self.depth;
         let k = find_call(&self.row, depth, table, id);
         if k == 0 {
@@ -126,15 +151,14 @@ impl Calls {
         let j = k - 1;
         let r = self.row[j] as usize;
         let since = self.since[j];
-        let now = self.clock;
         self.depth = j;
         bump(table, r * WIDTH + CLOSED);
-        if now < since {
+        if clock < since {
             bump(table, r * WIDTH + BACKWARD);
             return self;
         }
         let ticks = table[r * WIDTH + TICKS];
-        let more = now - since;
+        let more = clock - since;
         if LARGEST - ticks < more {
             self.refused = 13;
             return self;
@@ -144,50 +168,40 @@ impl Calls {
     }
 
     // Test 9, and the call that a function record opens or closes.
-    fn call(mut self, table: &mut [u64], action: u8, id: u64, delta: u64) -> Self
-        requires { ⌜ Sound 300 self (now table) ⌝ }
+    fn call(self, table: &mut [u64], action: u8, id: u64, delta: u64) -> Self
+        requires { ⌜ Sound 0 self (now table) × (self .records < 2 ^ 24) ⌝ }
         ensures same { λ r. ⌜ outcomeOf r (now (table .exit)) ≡ moved (viewed self (now (table .entry))) action id delta ⌝ }
-        ensures next { λ r. ⌜ Next self (now (table .entry)) r (now (table .exit)) ⌝ }
+        ensures next { λ r. ⌜ Next (passed self 0 (self .buffers)) (now (table .entry)) r (now (table .exit)) ⌝ }
     {
         let clock = self.clock;
         if LARGEST - delta < clock {
-            self.refused = 9;
-            return self;
+            return self.refuse(9);
         }
-        self.clock = clock + delta;
+        let now = clock + delta;
         if action == Record::ENTRY {
-            return self.enter(table, id);
+            return self.enter(table, id, now);
         }
         if action == Record::ENTRY_ARGS {
-            return self.enter(table, id);
+            return self.enter(table, id, now);
         }
-        self.leave(table, id)
+        self.leave(table, id, now)
     }
 
-    // One record.
-    pub fn step(mut self, table: &mut [u64], record: Record) -> Self
+    // One record. The state is handed on by value once, to the method that changes it.
+    pub fn step(self, table: &mut [u64], record: Record) -> Self
         requires { ⌜ Sound 0 self (now table) × (self .records < 2 ^ 24) ⌝ }
         ensures same { λ r. ⌜ outcomeOf r (now (table .exit)) ≡ step (viewed self (now (table .entry))) «record» ⌝ }
         ensures next { λ r. ⌜ After self «record» (now (table .entry)) r (now (table .exit)) ⌝ }
     {
-        self.records = self.records + 1;
+        let clock = self.clock;
         match record {
             Record::Function { action, id, delta } => {
                 self.call(table, action, id as u64, delta as u64)
             }
-            Record::NewCpuId { cpu: _, tsc } => {
-                self.clock = tsc;
-                self
-            }
-            Record::TscWrap { tsc } => {
-                self.clock = tsc;
-                self
-            }
-            Record::NewBuffer { thread: _ } => {
-                self.buffers = self.buffers + 1;
-                self
-            }
-            _ => self,
+            Record::NewCpuId { cpu: _, tsc } => self.pass(tsc, 0),
+            Record::TscWrap { tsc } => self.pass(tsc, 0),
+            Record::NewBuffer { thread: _ } => self.pass(clock, 1),
+            _ => self.pass(clock, 0),
         }
     }
 }

@@ -83,13 +83,13 @@ fn generated(inputs: u64, counts: &mut Counts) -> Result<(), String> {
     Ok(())
 }
 
-/// Every file of the folder, in the order of their names.
+/// Every log of the folder, in the order of their names.
 fn samples(folder: &Path, counts: &mut Counts) -> Result<(), String> {
     let fault = |error: std::io::Error| format!("{}: {error}", folder.display());
     let mut files = Vec::new();
     for entry in std::fs::read_dir(folder).map_err(fault)? {
         let path = entry.map_err(fault)?.path();
-        if path.is_file() {
+        if path.extension().is_some_and(|end| end == "fdr") {
             files.push(path);
         }
     }

@@ -1,47 +1,36 @@
+-- `probe::probe_replay` meets its contract: the list is five numbers long. Assumes nothing.
 use Rattle.probe.proofs.Lists.{past, verdict-long}
 use Rattle.probe.specs.Numbers.{verdictNumbers}
 use Rattle.replay.specs.Replay.{answer}
 use lib.ListN.{getD}
-use mathlib.Core.List.{List, [], _∷_}
-use Prim.Native.Nat.{ℕ, _+_, _-_, _/_, _%_, _*_, _≤_, _<_}
-use mathlib.Core.Path.{_≡_, refl, sym, ap, _∙_}
+use mathlib.Core.List.{List}
+use Prim.Native.Nat.{ℕ}
+use mathlib.Core.Path.{ap, _∙_}
 use borrow.Author.Needs.{needs}
 use Rattle.probe.proofs.probe_replay.Statement.{statement}
 use Rattle.probe.proofs.probe_replay.Tie as tie
-use Rattle.probe.proofs.probe_replay.Reads as reads
-use Rattle.probe.proofs.probe_replay.Lts as lts
-use Rattle.probe.proofs.list.answer_numbers.Reads as answer-numbers-reads
-use Rattle.replay.proofs.replay.Reads as replay-reads
 
--- src/lib.rt:81:34
 replay-requires : tie.Need-replay-requires
 replay-requires c κs = search needs
 
--- src/lib.rt:81:19
 answer-numbers-requires : tie.Need-answer-numbers-requires
 answer-numbers-requires c κs = search needs
 
--- src/lib.rt:83:9
 mul-result : tie.Need-mul-result
 mul-result c = search needs
 
--- src/lib.rt:83:9
 array-read-result : tie.Need-array-read-result
 array-read-result c = search needs
 
--- src/lib.rt:76:1
 same-length : tie.Need-same-length
 same-length c = search needs
 
--- src/lib.rt:76:1
 returns : tie.Need-returns
 returns c = (ap (λ (l : List ℕ). getD l (c .before .before .before .before .before .before .before .before .args .which) 0) (c .before .answer-numbers .ensures ∙ ap verdictNumbers (c .before .before .before .before .replay .ensures .0)), c .before .before .before .before .replay .ensures .1)
 
--- src/lib.rt:76:1
 same-length-2 : tie.Need-same-length-2
 same-length-2 c = search needs
 
--- src/lib.rt:76:1
 returns-2 : tie.Need-returns-2
 returns-2 c = let v = answer (c .before .before .before .before .before .before .before .before .args .log .now) (c .before .before .before .before .before .before .before .before .args .table .now) in
     (past (verdictNumbers v) 5 (c .before .before .before .before .before .before .before .before .args .which) (verdict-long v) (c .if1 .left), c .before .before .before .before .replay .ensures .1)

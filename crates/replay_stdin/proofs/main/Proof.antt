@@ -1,74 +1,55 @@
+-- `replay_stdin::main` meets its contract: what was read lies in the buffer. Assumes nothing.
 use Rattle.replay_stdin.specs.declared.Input.{Input}
 use Rattle.replay_stdin.specs.Input.{Within}
 use lib.Seq.{length-take-le}
 use lib.ListN.{length}
-use Prim.Native.Nat.{ℕ, _+_, _-_, _/_, _%_, _*_, _^_, _≤_, _<_}
-use mathlib.Core.Path.{_≡_, refl, sym, ap, _∙_, subst}
+use Prim.Native.Nat.{_≤_}
+use mathlib.Core.Path.{sym, subst}
 use borrow.Author.Needs.{needs}
 use Rattle.replay_stdin.proofs.main.Statement.{statement}
 use Rattle.replay_stdin.proofs.main.Tie as tie
-use Rattle.replay_stdin.proofs.main.Reads as reads
-use Rattle.replay_stdin.proofs.main.Lts as lts
-use Rattle.io.proofs.write_all.Reads as write-all-reads
-use Rattle.os.proofs.fail.Reads as fail-reads
-use Rattle.replay_stdin.proofs.print_replay.Reads as print-replay-reads
-use Rattle.replay_stdin.proofs.read_all.Reads as read-all-reads
 
--- src/main.rt:109:26
 slice-aggregate-read-all : tie.Need-slice-aggregate-read-all
 slice-aggregate-read-all c = search needs
 
--- src/main.rt:109:9
 read-all-requires : tie.Need-read-all-requires
 read-all-requires c κs = search needs
 
--- src/main.rt:110:22
 enum-known-input : tie.Need-enum-known-input
 enum-known-input c = search needs
 
--- src/main.rt:111:18
 enum-told : tie.Need-enum-told
 enum-told c = search needs
 
--- src/main.rt:111:18
 slice-aggregate-fail : tie.Need-slice-aggregate-fail
 slice-aggregate-fail c = search needs
 
--- src/main.rt:111:9
 fail-requires : tie.Need-fail-requires
 fail-requires c κs = search needs
 
--- src/main.rt:112:9
 returns : tie.Need-returns
 returns c = search needs
 
--- src/main.rt:115:38
 slice-aggregate-write-all : tie.Need-slice-aggregate-write-all
 slice-aggregate-write-all c = search needs
 
--- src/main.rt:115:9
 write-all-requires : tie.Need-write-all-requires
 write-all-requires c κs = search needs
 
--- src/main.rt:116:9
 returns-2 : tie.Need-returns-2
 returns-2 c = search needs
 
--- src/main.rt:118:18
 array-share-prefix-buffer : tie.Need-array-share-prefix-buffer
 array-share-prefix-buffer c = search needs
 
--- src/main.rt:118:18
 slice-aggregate-print-replay : tie.Need-slice-aggregate-print-replay
 slice-aggregate-print-replay c = let u = c .before .before .before .before .before .before .read-all .last .0 in
     let within : c .before .before .before .input .given .0 .0 ≤ length u = subst (λ (x : Input). Within x (length u)) (c .before .before .before .input .given .1) (c .before .before .before .before .before .before .read-all .ensures) in
     sym (length-take-le (c .before .before .before .input .given .0 .0) u within)
 
--- src/main.rt:118:5
 print-replay-requires : tie.Need-print-replay-requires
 print-replay-requires c κs = search needs
 
--- src/main.rt:107:1
 returns-3 : tie.Need-returns-3
 returns-3 c = search needs
 

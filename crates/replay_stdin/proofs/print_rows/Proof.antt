@@ -1,11 +1,9 @@
+-- `replay_stdin::print_rows` meets its contract: a row lies in the table. Assumes nothing.
 use borrow.Author.Needs.{needs}
-use Prim.Native.Nat.{ℕ, _+_, _-_, _/_, _%_, _*_, _^_, _≤_, _<_}
+use Prim.Native.Nat.{_-_, _≤_}
 use native.Mathlib.Omega.{arith}
 use Rattle.replay_stdin.proofs.print_rows.Statement.{statement}
 use Rattle.replay_stdin.proofs.print_rows.Tie as tie
-use Rattle.replay_stdin.proofs.print_rows.Reads as reads
-use Rattle.replay_stdin.proofs.print_rows.Lts as lts
-use Rattle.replay_stdin.proofs.print_row.Reads as print-row-reads
 
 abbrev Inv-loop : tie.InvT-loop
 Inv-loop table rows row₀ row = row ≤ 1024
@@ -13,103 +11,78 @@ Inv-loop table rows row₀ row = row ≤ 1024
 abbrev μ-loop : tie.MeasureT-loop
 μ-loop table rows row₀ row = 1024 - row
 
--- src/main.rt:51:5
 loop-holds : tie.Need-loop-holds Inv-loop μ-loop
 loop-holds c = omega arith
 
--- src/main.rt:53:13
 returns : tie.Need-returns Inv-loop μ-loop
 returns c = tt
 
--- src/main.rt:55:17
 mul-i : tie.Need-mul-i Inv-loop μ-loop
 mul-i c = omega arith
 
--- src/main.rt:58:17
 mul-t9 : tie.Need-mul-t9 Inv-loop μ-loop
 mul-t9 c = omega arith
 
--- src/main.rt:58:17
 element-copy-out-t6 : tie.Need-element-copy-out-t6 Inv-loop μ-loop
 element-copy-out-t6 c = omega arith
 
--- src/main.rt:59:23
 add-t12 : tie.Need-add-t12 Inv-loop μ-loop
 add-t12 c = omega arith
 
--- src/main.rt:59:17
 mul-t13 : tie.Need-mul-t13 Inv-loop μ-loop
 mul-t13 c = omega arith
 
--- src/main.rt:59:17
 element-copy-out-t16 : tie.Need-element-copy-out-t16 Inv-loop μ-loop
 element-copy-out-t16 c = omega arith
 
--- src/main.rt:60:23
 add-t17 : tie.Need-add-t17 Inv-loop μ-loop
 add-t17 c = omega arith
 
--- src/main.rt:60:17
 mul-t18 : tie.Need-mul-t18 Inv-loop μ-loop
 mul-t18 c = omega arith
 
--- src/main.rt:60:17
 element-copy-out-t21 : tie.Need-element-copy-out-t21 Inv-loop μ-loop
 element-copy-out-t21 c = omega arith
 
--- src/main.rt:61:23
 add-t22 : tie.Need-add-t22 Inv-loop μ-loop
 add-t22 c = omega arith
 
--- src/main.rt:61:17
 mul-t23 : tie.Need-mul-t23 Inv-loop μ-loop
 mul-t23 c = omega arith
 
--- src/main.rt:61:17
 element-copy-out-t26 : tie.Need-element-copy-out-t26 Inv-loop μ-loop
 element-copy-out-t26 c = omega arith
 
--- src/main.rt:62:23
 add-t27 : tie.Need-add-t27 Inv-loop μ-loop
 add-t27 c = omega arith
 
--- src/main.rt:62:17
 mul-t28 : tie.Need-mul-t28 Inv-loop μ-loop
 mul-t28 c = omega arith
 
--- src/main.rt:62:17
 element-copy-out-t31 : tie.Need-element-copy-out-t31 Inv-loop μ-loop
 element-copy-out-t31 c = omega arith
 
--- src/main.rt:63:23
 add-t32 : tie.Need-add-t32 Inv-loop μ-loop
 add-t32 c = omega arith
 
--- src/main.rt:63:17
 mul-t33 : tie.Need-mul-t33 Inv-loop μ-loop
 mul-t33 c = omega arith
 
--- src/main.rt:63:17
 element-copy-out-t36 : tie.Need-element-copy-out-t36 Inv-loop μ-loop
 element-copy-out-t36 c = omega arith
 
--- src/main.rt:56:9
 print-row-requires : tie.Need-print-row-requires Inv-loop μ-loop
 print-row-requires c κs = search needs
 
--- src/main.rt:66:9
 add-row : tie.Need-add-row Inv-loop μ-loop
 add-row c = omega arith
 
--- src/main.rt:51:5
 loop-less : tie.Need-loop-less Inv-loop μ-loop
 loop-less c = omega arith
 
--- src/main.rt:51:5
 loop-again : tie.Need-loop-again Inv-loop μ-loop
 loop-again c = omega arith
 
--- src/main.rt:49:1
 returns-2 : tie.Need-returns-2 Inv-loop μ-loop
 returns-2 c = tt
 

@@ -1,17 +1,14 @@
+-- `replay_stdin::read_all` meets its contract: each read stays within what is left of the buffer, and takes some of it. Assumes nothing.
 use Rattle.replay_stdin.specs.declared.Input.{Input}
 use Rattle.replay_stdin.specs.Input.{Within}
 use borrow.Rule.Slice.PartMut.{putMid, same-len-mid}
 use borrow.Author.Needs.{needs}
 use lib.ListN.{length, length-take, length-drop}
-use mathlib.Core.List.{List, [], _∷_}
-use Prim.Native.Nat.{ℕ, _+_, _-_, _/_, _%_, _*_, _^_, _≤_, _<_}
+use Prim.Native.Nat.{_-_, _≤_}
 use native.Mathlib.Omega.{arith}
-use mathlib.Core.Path.{_≡_, refl, sym, ap, _∙_, subst}
+use mathlib.Core.Path.{_≡_, refl, _∙_, subst}
 use Rattle.replay_stdin.proofs.read_all.Statement.{statement}
 use Rattle.replay_stdin.proofs.read_all.Tie as tie
-use Rattle.replay_stdin.proofs.read_all.Reads as reads
-use Rattle.replay_stdin.proofs.read_all.Lts as lts
-use Rattle.replay_stdin.proofs.read_some.Reads as read-some-reads
 
 abbrev Inv-loop : tie.InvT-loop
 Inv-loop buffer₀ done₀ buffer done = (done ≤ length buffer) × (length buffer ≡ length buffer₀)
@@ -19,57 +16,45 @@ Inv-loop buffer₀ done₀ buffer done = (done ≤ length buffer) × (length buf
 abbrev μ-loop : tie.MeasureT-loop
 μ-loop buffer₀ done₀ buffer done = length buffer₀ - done
 
--- src/main.rt:32:5
 loop-holds : tie.Need-loop-holds Inv-loop μ-loop
 loop-holds c = (omega arith, refl)
 
--- src/main.rt:33:30
 sub-read-some : tie.Need-sub-read-some Inv-loop μ-loop
 sub-read-some c = omega arith
 
--- src/main.rt:33:30
 part-read-some-start : tie.Need-part-read-some-start Inv-loop μ-loop
 part-read-some-start c = omega arith
 
--- src/main.rt:33:30
 part-read-some-end : tie.Need-part-read-some-end Inv-loop μ-loop
 part-read-some-end c = omega arith
 
--- src/main.rt:33:13
 read-some-requires : tie.Need-read-some-requires Inv-loop μ-loop
 read-some-requires c κs = search needs
 
--- src/main.rt:34:26
 enum-known-read : tie.Need-enum-known-read Inv-loop μ-loop
 enum-known-read c = search needs
 
--- src/main.rt:35:13
 enum-told : tie.Need-enum-told Inv-loop μ-loop
 enum-told c = search needs
 
--- src/main.rt:35:13
 same-length : tie.Need-same-length Inv-loop μ-loop
 same-length c = let l = c .before .before .before .before .before .before .before .loop in
     let same : length (putMid (l .done) (length (l .buffer) - l .done) (l .buffer) (c .before .before .before .before .read-some .last .0)) ≡ length (l .buffer) = same-len-mid (l .done) (length (l .buffer) - l .done) (l .buffer) (c .before .before .before .before .read-some .last .0) (c .before .before .before .before .read-some .kept .0) in
     same ∙ l .inv .1
 
--- src/main.rt:35:13
 returns : tie.Need-returns Inv-loop μ-loop
 returns c = tt
 
--- src/main.rt:38:13
 same-length-2 : tie.Need-same-length-2 Inv-loop μ-loop
 same-length-2 c = let l = c .before .before .before .before .before .before .before .before .before .loop in
     let same : length (putMid (l .done) (length (l .buffer) - l .done) (l .buffer) (c .before .before .before .before .before .before .read-some .last .0)) ≡ length (l .buffer) = same-len-mid (l .done) (length (l .buffer) - l .done) (l .buffer) (c .before .before .before .before .before .before .read-some .last .0) (c .before .before .before .before .before .before .read-some .kept .0) in
     same ∙ l .inv .1
 
--- src/main.rt:38:13
 returns-2 : tie.Need-returns-2 Inv-loop μ-loop
 returns-2 c = let l = c .before .before .before .before .before .before .before .before .before .loop in
     let same : length (putMid (l .done) (length (l .buffer) - l .done) (l .buffer) (c .before .before .before .before .before .before .read-some .last .0)) ≡ length (l .buffer) = same-len-mid (l .done) (length (l .buffer) - l .done) (l .buffer) (c .before .before .before .before .before .before .read-some .last .0) (c .before .before .before .before .before .before .read-some .kept .0) in
     omega (arith, l .inv .0)
 
--- src/main.rt:40:9
 add-done : tie.Need-add-done Inv-loop μ-loop
 add-done c = let l = c .before .before .before .before .before .before .before .before .before .loop in
     let same : length (putMid (l .done) (length (l .buffer) - l .done) (l .buffer) (c .before .before .before .before .before .before .read-some .last .0)) ≡ length (l .buffer) = same-len-mid (l .done) (length (l .buffer) - l .done) (l .buffer) (c .before .before .before .before .before .before .read-some .last .0) (c .before .before .before .before .before .before .read-some .kept .0) in
@@ -77,7 +62,6 @@ add-done c = let l = c .before .before .before .before .before .before .before .
     let within : c .before .before .read .given .0 .0 ≤ length (c .before .before .before .before .before .before .read-some .last .0) = subst (λ (x : Input). Within x (length (c .before .before .before .before .before .before .read-some .last .0))) (c .before .before .read .given .1) (c .before .before .before .before .before .before .read-some .ensures) in
     omega (arith, c .before .before .before .before .before .before .before .before .loop-test .taken)
 
--- src/main.rt:32:5
 loop-less : tie.Need-loop-less Inv-loop μ-loop
 loop-less c = let l = c .before .before .before .before .before .before .before .before .before .loop in
     let same : length (putMid (l .done) (length (l .buffer) - l .done) (l .buffer) (c .before .before .before .before .before .before .read-some .last .0)) ≡ length (l .buffer) = same-len-mid (l .done) (length (l .buffer) - l .done) (l .buffer) (c .before .before .before .before .before .before .read-some .last .0) (c .before .before .before .before .before .before .read-some .kept .0) in
@@ -85,7 +69,6 @@ loop-less c = let l = c .before .before .before .before .before .before .before 
     let within : c .before .before .read .given .0 .0 ≤ length (c .before .before .before .before .before .before .read-some .last .0) = subst (λ (x : Input). Within x (length (c .before .before .before .before .before .before .read-some .last .0))) (c .before .before .read .given .1) (c .before .before .before .before .before .before .read-some .ensures) in
     omega (arith, c .if1 .left, c .before .before .before .before .before .before .before .before .loop-test .taken, l .inv .1)
 
--- src/main.rt:32:5
 loop-again : tie.Need-loop-again Inv-loop μ-loop
 loop-again c = let l = c .before .before .before .before .before .before .before .before .before .loop in
     let same : length (putMid (l .done) (length (l .buffer) - l .done) (l .buffer) (c .before .before .before .before .before .before .read-some .last .0)) ≡ length (l .buffer) = same-len-mid (l .done) (length (l .buffer) - l .done) (l .buffer) (c .before .before .before .before .before .before .read-some .last .0) (c .before .before .before .before .before .before .read-some .kept .0) in
@@ -93,11 +76,9 @@ loop-again c = let l = c .before .before .before .before .before .before .before
     let within : c .before .before .read .given .0 .0 ≤ length (c .before .before .before .before .before .before .read-some .last .0) = subst (λ (x : Input). Within x (length (c .before .before .before .before .before .before .read-some .last .0))) (c .before .before .read .given .1) (c .before .before .before .before .before .before .read-some .ensures) in
     (omega (arith, c .before .before .before .before .before .before .before .before .loop-test .taken), same ∙ l .inv .1)
 
--- src/main.rt:28:1
 same-length-3 : tie.Need-same-length-3 Inv-loop μ-loop
 same-length-3 c = c .before .loop .inv .1
 
--- src/main.rt:28:1
 returns-3 : tie.Need-returns-3 Inv-loop μ-loop
 returns-3 c = omega arith
 

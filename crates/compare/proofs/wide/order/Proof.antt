@@ -1,28 +1,22 @@
+-- `compare::wide::order` meets its contract: the first word decides, then the second. Assumes nothing.
 use Rattle.compare.proofs.Ranks.{second-word, first-word}
 use Rattle.compare.specs.Wide.{valueOf}
 use native.Mathlib.Omega.{arith}
-use mathlib.Core.Path.{_≡_, refl, sym, ap, _∙_}
+use mathlib.Core.Path.{sym, _∙_}
 use borrow.Author.Needs.{needs}
 use Rattle.compare.proofs.wide.order.Statement.{statement}
 use Rattle.compare.proofs.wide.order.Tie as tie
-use Rattle.compare.proofs.wide.order.Reads as reads
-use Rattle.compare.proofs.wide.order.Lts as lts
-use Rattle.compare.proofs.wide.rank.Reads as rank-reads
 
--- src/wide.rt:52:9
 rank-requires : tie.Need-rank-requires
 rank-requires c κs = search needs
 
--- src/wide.rt:53:9
 rank-requires-2 : tie.Need-rank-requires-2
 rank-requires-2 c κs = search needs
 
--- src/wide.rt:49:1
 returns : tie.Need-returns
 unfolding valueOf
 returns c = c .before .rank2 .ensures ∙ second-word (c .before .before .before .args .a .high) (c .before .before .before .args .a .low) (c .before .before .before .args .b .high) (c .before .before .before .args .b .low) (sym (c .before .before .rank .ensures) ∙ c .if1 .taken)
 
--- src/wide.rt:49:1
 returns-2 : tie.Need-returns-2
 unfolding valueOf
 returns-2 c = c .before .before .rank .ensures ∙ first-word (c .before .before .before .args .a .high) (c .before .before .before .args .a .low) (c .before .before .before .args .b .high) (c .before .before .before .args .b .low) (omega arith) (omega arith) (λ e. c .if1 .left (c .before .before .rank .ensures ∙ e))

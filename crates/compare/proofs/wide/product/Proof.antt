@@ -1,11 +1,10 @@
-use Prim.Native.Nat.{ℕ, _+_, _-_, _/_, _%_, _*_, _≤_, _<_}
-use mathlib.Core.Path.{_≡_, refl, sym, ap, _∙_}
+-- `compare::wide::product` meets its contract: the four products of halves and their carries fit a word, and add up to the whole. Assumes nothing.
+use Prim.Native.Nat.{_/_, _%_, _*_}
+use mathlib.Core.Path.{sym, _∙_}
 -- `compare::wide::product` meets its contract: the four products of halves and their carries fit a word, and add up to the whole. Assumes nothing.
 use Rattle.compare.proofs.Products.{halves, columns, carried, carries}
 use Rattle.compare.specs.Wide.{valueOf}
-use Prim.Native.Nat.{_/_, _%_, _*_}
 use native.Mathlib.Omega.{arith}
-use mathlib.Core.Path.{sym, _∙_}
 use borrow.Author.Needs.{needs}
 use Rattle.compare.proofs.wide.product.Statement.{statement}
 use Rattle.compare.proofs.wide.product.Tie as tie

@@ -1,33 +1,26 @@
+-- `probe::list::answer_numbers` meets its contract: case by case. Assumes nothing.
 use Rattle.probe.specs.Numbers.{verdictNumbers}
 use Rattle.replay.specs.declared.Answer.{Answer}
 use Rattle.replay.specs.Replay.{verdictOf}
-use mathlib.Core.List.{List, [], _∷_}
-use Prim.Native.Nat.{ℕ, _+_, _-_, _/_, _%_, _*_, _≤_, _<_}
-use mathlib.Core.Path.{_≡_, refl, sym, ap, _∙_}
+use mathlib.Core.List.{[], _∷_}
+use Prim.Native.Nat.{ℕ}
+use mathlib.Core.Path.{sym, ap, _∙_}
 use borrow.Author.Needs.{needs}
 use Rattle.probe.proofs.list.answer_numbers.Statement.{statement}
 use Rattle.probe.proofs.list.answer_numbers.Tie as tie
-use Rattle.probe.proofs.list.answer_numbers.Reads as reads
-use Rattle.probe.proofs.list.answer_numbers.Lts as lts
-use Rattle.fdr.proofs.refusal.Refusal.number.Reads as number-reads
 
--- src/list.rt:155:13
 enum-known-answer : tie.Need-enum-known-answer
 enum-known-answer c = search needs
 
--- src/list.rt:160:27
 enum-known-answer-2 : tie.Need-enum-known-answer-2
 enum-known-answer-2 c = search needs
 
--- src/list.rt:160:48
 number-requires : tie.Need-number-requires
 number-requires c κs = search needs
 
--- src/list.rt:150:1
 returns : tie.Need-returns
 returns c = sym (ap (λ (x : Answer). verdictNumbers (verdictOf x)) (c .before .answer .given .1))
 
--- src/list.rt:150:1
 returns-2 : tie.Need-returns-2
 returns-2 c = ap (λ (n : ℕ). n ∷ c .before .before .answer2 .given .0 .1 .0 ∷ 0 ∷ 0 ∷ 0 ∷ []) (c .number .ensures) ∙ sym (ap (λ (x : Answer). verdictNumbers (verdictOf x)) (c .before .before .answer2 .given .1))
 

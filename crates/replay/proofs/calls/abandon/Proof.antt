@@ -1,4 +1,4 @@
--- `replay::calls::abandon` meets its contract. Assumes nothing.
+-- `replay::calls::abandon` meets its contract: the calls passed are counted in their rows. Assumes nothing.
 use Rattle.replay.specs.Row.{width}
 use lib.Seq.{drop-set-lt}
 use Rattle.replay.proofs.Stacks.{abandon-turn, length-callsIn}

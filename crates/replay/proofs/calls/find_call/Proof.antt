@@ -1,4 +1,4 @@
--- `replay::calls::find_call` meets its contract. Assumes nothing.
+-- `replay::calls::find_call` meets its contract: no call above is of the function. Assumes nothing.
 use Rattle.replay.proofs.Stacks.{nearest-found, nearest-on}
 use native.Mathlib.Omega.{arith}
 use mathlib.Core.Path.{_≡_, refl, ap, _∙_}

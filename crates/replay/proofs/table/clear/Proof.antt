@@ -1,4 +1,4 @@
--- `replay::table::clear` meets its contract. Assumes nothing.
+-- `replay::table::clear` meets its contract: the numbers passed are zero, and the others as they were. Assumes nothing.
 use Rattle.replay.specs.Row.{written, flat, zeros, tableOf}
 use Rattle.replay.proofs.Rows.{fill-length}
 use native.Mathlib.Omega.{arith}

@@ -1,4 +1,4 @@
--- `replay::table::find_row` meets its contract. Assumes nothing.
+-- `replay::table::find_row` meets its contract: no row passed is of the function. Assumes nothing.
 use Rattle.replay.specs.Row.{width}
 use Rattle.replay.proofs.Rows.{rowOf-at, rowOf-past}
 use native.Mathlib.Omega.{arith}

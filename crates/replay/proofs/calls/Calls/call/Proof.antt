@@ -1,71 +1,62 @@
+-- `replay::calls::Calls::call` meets its contract: the clock, then an entry or an exit. Assumes nothing.
 use Rattle.replay.proofs.Stepping.{clock-past, is-entry, is-entry-args, is-exit, next-clocked}
 use Rattle.replay.proofs.Entering.{is-stopped, next-refused}
-use Prim.Native.Nat.{ℕ, _+_, _-_, _/_, _%_, _*_, _^_, _≤_, _<_}
+use Rattle.replay.specs.declared.calls.Calls.{Calls}
+use Rattle.replay.specs.View.{passed}
 use native.Mathlib.Omega.{arith}
-use mathlib.Core.Path.{_≡_, refl, sym, ap, _∙_, subst}
+use mathlib.Core.Path.{refl, ap, _∙_}
 use borrow.Author.Needs.{needs}
 use Rattle.replay.proofs.calls.Calls.call.Statement.{statement}
 use Rattle.replay.proofs.calls.Calls.call.Tie as tie
-use Rattle.replay.proofs.calls.Calls.call.Reads as reads
-use Rattle.replay.proofs.calls.Calls.call.Lts as lts
-use Rattle.replay.proofs.calls.Calls.enter.Reads as enter-reads
-use Rattle.replay.proofs.calls.Calls.leave.Reads as leave-reads
 
--- src/calls.rt:153:12
 sub-if1 : tie.Need-sub-if1
 sub-if1 c = search needs
 
--- src/calls.rt:155:13
+refuse-requires : tie.Need-refuse-requires
+refuse-requires c κs = search needs
+
 returns : tie.Need-returns
-returns c = (is-stopped _ (c .before .before .args .table .now) 9 refl (omega arith) ∙ clock-past (c .before .before .args .self) (c .before .before .args .table .now) (c .before .before .args .action) (c .before .before .args .id) (c .before .before .args .delta) (omega (arith, c .if1 .taken)), next-refused (c .before .before .args .self) (c .before .before .args .table .now) _ (c .before .before .args .table .now) 9 refl (omega arith) refl refl refl)
+returns c = let e = c .refuse .ensures in
+    (is-stopped _ (c .before .before .before .args .table .now) 9 (ap (λ (x : Calls). x .refused) e) (omega arith) ∙ clock-past (c .before .before .before .args .self) (c .before .before .before .args .table .now) (c .before .before .before .args .action) (c .before .before .before .args .id) (c .before .before .before .args .delta) (omega (arith, c .before .if1 .taken)), next-refused (passed (c .before .before .before .args .self) 0 (c .before .before .before .args .self .buffers)) (c .before .before .before .args .table .now) _ (c .before .before .before .args .table .now) 9 (ap (λ (x : Calls). x .refused) e) (omega arith) (ap (λ (x : Calls). x .records) e) (ap (λ (x : Calls). x .buffers) e) refl)
 
--- src/calls.rt:157:22
-add-self : tie.Need-add-self
-add-self c = search needs
+add-now : tie.Need-add-now
+add-now c = search needs
 
--- src/calls.rt:159:13
 enter-requires : tie.Need-enter-requires
 enter-requires c κs = search needs
 
--- src/calls.rt:159:13
 same-length : tie.Need-same-length
 same-length c = search needs
 
--- src/calls.rt:159:13
 returns-2 : tie.Need-returns-2
-returns-2 c = (c .before .before .enter .ensures .0 ∙ is-entry (c .before .before .before .before .before .before .before .args .self) (c .before .before .before .before .before .before .before .args .table .now) (c .before .before .before .before .before .before .before .args .action) (c .before .before .before .before .before .before .before .args .id) (c .before .before .before .before .before .before .before .args .delta) (omega (arith, c .before .before .before .before .before .if1 .left)) (c .before .before .before .before .if2 .taken), next-clocked (c .before .before .before .before .before .before .before .args .self) (c .before .before .before .before .before .before .before .args .table .now) _ _ _ (c .before .before .enter .ensures .1))
+returns-2 c = (c .before .before .enter .ensures .0 ∙ is-entry (c .before .before .before .before .before .before .before .args .self) (c .before .before .before .before .before .before .before .args .table .now) (c .before .before .before .before .before .before .before .args .action) (c .before .before .before .before .before .before .before .args .id) (c .before .before .before .before .before .before .before .args .delta) (omega (arith, c .before .before .before .before .before .if1 .left)) (c .before .before .before .before .if2 .taken), next-clocked (c .before .before .before .before .before .before .before .args .self) (c .before .before .before .before .before .before .before .args .table .now) _ 0 _ _ (c .before .before .enter .ensures .1))
 
--- src/calls.rt:162:13
 enter-requires-2 : tie.Need-enter-requires-2
 enter-requires-2 c κs = search needs
 
--- src/calls.rt:162:13
 same-length-2 : tie.Need-same-length-2
 same-length-2 c = search needs
 
--- src/calls.rt:162:13
 returns-3 : tie.Need-returns-3
-returns-3 c = (c .before .before .enter2 .ensures .0 ∙ is-entry-args (c .before .before .before .before .before .before .before .before .args .self) (c .before .before .before .before .before .before .before .before .args .table .now) (c .before .before .before .before .before .before .before .before .args .action) (c .before .before .before .before .before .before .before .before .args .id) (c .before .before .before .before .before .before .before .before .args .delta) (omega (arith, c .before .before .before .before .before .before .if1 .left)) (c .before .before .before .before .before .if2 .left) (c .before .before .before .before .if3 .taken), next-clocked (c .before .before .before .before .before .before .before .before .args .self) (c .before .before .before .before .before .before .before .before .args .table .now) _ _ _ (c .before .before .enter2 .ensures .1))
+returns-3 c = (c .before .before .enter2 .ensures .0 ∙ is-entry-args (c .before .before .before .before .before .before .before .before .args .self) (c .before .before .before .before .before .before .before .before .args .table .now) (c .before .before .before .before .before .before .before .before .args .action) (c .before .before .before .before .before .before .before .before .args .id) (c .before .before .before .before .before .before .before .before .args .delta) (omega (arith, c .before .before .before .before .before .before .if1 .left)) (c .before .before .before .before .before .if2 .left) (c .before .before .before .before .if3 .taken), next-clocked (c .before .before .before .before .before .before .before .before .args .self) (c .before .before .before .before .before .before .before .before .args .table .now) _ 0 _ _ (c .before .before .enter2 .ensures .1))
 
--- src/calls.rt:164:9
 leave-requires : tie.Need-leave-requires
 leave-requires c κs = search needs
 
--- src/calls.rt:147:5
 same-length-3 : tie.Need-same-length-3
 same-length-3 c = search needs
 
--- src/calls.rt:147:5
 returns-4 : tie.Need-returns-4
-returns-4 c = (c .before .before .leave .ensures .0 ∙ is-exit (c .before .before .before .before .before .before .before .before .args .self) (c .before .before .before .before .before .before .before .before .args .table .now) (c .before .before .before .before .before .before .before .before .args .action) (c .before .before .before .before .before .before .before .before .args .id) (c .before .before .before .before .before .before .before .before .args .delta) (omega (arith, c .before .before .before .before .before .before .if1 .left)) (c .before .before .before .before .before .if2 .left) (c .before .before .before .before .if3 .left), next-clocked (c .before .before .before .before .before .before .before .before .args .self) (c .before .before .before .before .before .before .before .before .args .table .now) _ _ _ (c .before .before .leave .ensures .1))
+returns-4 c = (c .before .before .leave .ensures .0 ∙ is-exit (c .before .before .before .before .before .before .before .before .args .self) (c .before .before .before .before .before .before .before .before .args .table .now) (c .before .before .before .before .before .before .before .before .args .action) (c .before .before .before .before .before .before .before .before .args .id) (c .before .before .before .before .before .before .before .before .args .delta) (omega (arith, c .before .before .before .before .before .before .if1 .left)) (c .before .before .before .before .before .if2 .left) (c .before .before .before .before .if3 .left), next-clocked (c .before .before .before .before .before .before .before .before .args .self) (c .before .before .before .before .before .before .before .before .args .table .now) _ 0 _ _ (c .before .before .leave .ensures .1))
 
 pub call-spec : {M : Type 1} → statement M
 call-spec =
     tie.close
     (tie.spec
     sub-if1
+    refuse-requires
     returns
-    add-self
+    add-now
     enter-requires
     same-length
     returns-2

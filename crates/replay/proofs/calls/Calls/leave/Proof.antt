@@ -1,77 +1,80 @@
+-- `replay::calls::Calls::leave` meets its contract: each answer by the law of an exit that applies. Assumes nothing.
 use Rattle.replay.proofs.Leaving.{leave-none, counts-shut, kept-shut, leave-backward, next-backward, leave-over, leave-measured, next-measured}
 use Rattle.replay.proofs.Entering.{is-stopped, next-refused}
+use Rattle.replay.proofs.Stepping.{sound-passed}
+use Rattle.replay.specs.declared.calls.Calls.{Calls}
+use Rattle.replay.specs.View.{passed}
 use Rattle.replay.proofs.Rows.{bounded-more}
 use Rattle.replay.specs.Row.{width, written}
 use lib.ListN.{length, getD, set, drop, length-set}
-use mathlib.Core.List.{List, [], _∷_}
-use Prim.Native.Nat.{ℕ, _+_, _-_, _/_, _%_, _*_, _^_, _≤_, _<_}
+use mathlib.Core.List.{List}
+use Prim.Native.Nat.{ℕ, _+_, _-_, _*_, _^_, _≤_, _<_}
 use native.Mathlib.Omega.{arith}
 use mathlib.Core.Path.{_≡_, refl, sym, ap, _∙_, subst}
 use borrow.Author.Needs.{needs}
 use Rattle.replay.proofs.calls.Calls.leave.Statement.{statement}
 use Rattle.replay.proofs.calls.Calls.leave.Tie as tie
-use Rattle.replay.proofs.calls.Calls.leave.Reads as reads
-use Rattle.replay.proofs.calls.Calls.leave.Lts as lts
-use Rattle.replay.proofs.calls.abandon.Reads as abandon-reads
-use Rattle.replay.proofs.calls.find_call.Reads as find-call-reads
-use Rattle.replay.proofs.table.bump.Reads as bump-reads
 
--- src/calls.rt:120:13
+add-self : tie.Need-add-self
+add-self c = search needs
+
 find-call-requires : tie.Need-find-call-requires
-find-call-requires c κs = let h = c .before .before .before .before .pre in (h .shallow, (λ j l. omega (arith, h .below j l, h .few)), h .long)
+find-call-requires c κs = let h = c .before .before .before .before .pre .0 in (h .shallow, (λ j l. omega (arith, h .below j l, h .few)), h .long)
 
--- src/calls.rt:123:13
 same-length : tie.Need-same-length
 same-length c = search needs
 
--- src/calls.rt:123:13
 returns : tie.Need-returns
 returns c = let a = c .before .before .before .before .before .before in
-    let st = a .args .t1 in
-    let h = a .pre in
     let t : List ℕ = a .args .table .now in
+    let st : Calls = passed (a .args .t1) (a .args .clock) (a .args .t1 .buffers) in
+    let h = sound-passed (a .args .t1) t (a .pre .0) (a .pre .1) 300 (a .args .clock) (a .args .t1 .buffers) (omega arith) (omega (arith, a .pre .0 .fewer)) in
     let k = c .before .find-call .result in
     (is-stopped _ t 10 refl (omega arith) ∙ leave-none st t (a .args .id) k h (c .before .find-call .ensures) (c .if1 .taken), next-refused st t _ t 10 refl (omega arith) refl refl refl)
 
--- src/calls.rt:125:9
 abandon-requires : tie.Need-abandon-requires
 abandon-requires c κs = let a = c .before .before .before .before .before .before .before .before .before in
-    let st = a .args .t1 in
-    let h = a .pre in
     let t : List ℕ = a .args .table .now in
+    let st : Calls = passed (a .args .t1) (a .args .clock) (a .args .t1 .buffers) in
+    let h = sound-passed (a .args .t1) t (a .pre .0) (a .pre .1) 300 (a .args .clock) (a .args .t1 .buffers) (omega arith) (omega (arith, a .pre .0 .fewer)) in
     let near = c .before .before .before .before .find-call .ensures in
     (near .within, h .shallow, (λ j l. omega (arith, h .below j l, h .few)), h .long, bounded-more t (h .bound) (2 ^ 40) (omega (arith, h .early, h .room)) (h .counts))
 
--- src/calls.rt:126:17
 sub-j : tie.Need-sub-j
 sub-j c = search needs
 
--- src/calls.rt:127:17
 mul-r : tie.Need-mul-r
 mul-r c = search needs
 
--- src/calls.rt:127:17
 element-copy-out-r : tie.Need-element-copy-out-r
 element-copy-out-r c = search needs
 
--- src/calls.rt:127:17
 cast-r : tie.Need-cast-r
-cast-r c = search needs
+cast-r c = let a = c .before .before .before .before .before .before .before .before .before .before .before .before .before in
+    let t : List ℕ = a .args .table .now in
+    let st : Calls = passed (a .args .t1) (a .args .clock) (a .args .t1 .buffers) in
+    let h = sound-passed (a .args .t1) t (a .pre .0) (a .pre .1) 300 (a .args .clock) (a .args .t1 .buffers) (omega arith) (omega (arith, a .pre .0 .fewer)) in
+    let k = c .before .before .before .before .before .before .before .before .find-call .result in
+    let near = c .before .before .before .before .before .before .before .before .find-call .ensures in
+    let some : 0 < k = omega (arith, c .before .before .before .before .before .before .before .if1 .left) in
+    let r : ℕ = getD (st .row) (k - 1) 0 in
+    let u₁ : List ℕ = c .before .before .before .abandon .last .1 .1 .1 .0 in
+    let gone = c .before .before .before .abandon .ensures in
+    let len : length u₁ ≡ length t = c .before .before .before .abandon .kept .1 .1 .1 .0 in
+    let lr : r < st .rows = h .below (k - 1) (omega (arith, near .within)) in
+    omega (arith, h .few)
 
--- src/calls.rt:128:21
 mul-since : tie.Need-mul-since
 mul-since c = search needs
 
--- src/calls.rt:128:21
 element-copy-out-since : tie.Need-element-copy-out-since
 element-copy-out-since c = search needs
 
--- src/calls.rt:131:21
 mul-bump : tie.Need-mul-bump
 mul-bump c = let a = c .before .before .before .before .before .before .before .before .before .before .before .before .before .before .before in
-    let st = a .args .t1 in
-    let h = a .pre in
     let t : List ℕ = a .args .table .now in
+    let st : Calls = passed (a .args .t1) (a .args .clock) (a .args .t1 .buffers) in
+    let h = sound-passed (a .args .t1) t (a .pre .0) (a .pre .1) 300 (a .args .clock) (a .args .t1 .buffers) (omega arith) (omega (arith, a .pre .0 .fewer)) in
     let k = c .before .before .before .before .before .before .before .before .before .before .find-call .result in
     let near = c .before .before .before .before .before .before .before .before .before .before .find-call .ensures in
     let some : 0 < k = omega (arith, c .before .before .before .before .before .before .before .before .before .if1 .left) in
@@ -82,12 +85,11 @@ mul-bump c = let a = c .before .before .before .before .before .before .before .
     let lr : r < st .rows = h .below (k - 1) (omega (arith, near .within)) in
     omega (arith, h .few)
 
--- src/calls.rt:131:21
 add-bump : tie.Need-add-bump
 add-bump c = let a = c .before .before .before .before .before .before .before .before .before .before .before .before .before .before .before in
-    let st = a .args .t1 in
-    let h = a .pre in
     let t : List ℕ = a .args .table .now in
+    let st : Calls = passed (a .args .t1) (a .args .clock) (a .args .t1 .buffers) in
+    let h = sound-passed (a .args .t1) t (a .pre .0) (a .pre .1) 300 (a .args .clock) (a .args .t1 .buffers) (omega arith) (omega (arith, a .pre .0 .fewer)) in
     let k = c .before .before .before .before .before .before .before .before .before .before .find-call .result in
     let near = c .before .before .before .before .before .before .before .before .before .before .find-call .ensures in
     let some : 0 < k = omega (arith, c .before .before .before .before .before .before .before .before .before .if1 .left) in
@@ -98,12 +100,11 @@ add-bump c = let a = c .before .before .before .before .before .before .before .
     let lr : r < st .rows = h .below (k - 1) (omega (arith, near .within)) in
     omega (arith, h .few)
 
--- src/calls.rt:131:9
 bump-requires : tie.Need-bump-requires
 bump-requires c κs = let a = c .before .before .before .before .before .before .before .before .before .before .before .before .before .before .before in
-    let st = a .args .t1 in
-    let h = a .pre in
     let t : List ℕ = a .args .table .now in
+    let st : Calls = passed (a .args .t1) (a .args .clock) (a .args .t1 .buffers) in
+    let h = sound-passed (a .args .t1) t (a .pre .0) (a .pre .1) 300 (a .args .clock) (a .args .t1 .buffers) (omega arith) (omega (arith, a .pre .0 .fewer)) in
     let k = c .before .before .before .before .before .before .before .before .before .before .find-call .result in
     let near = c .before .before .before .before .before .before .before .before .before .before .find-call .ensures in
     let some : 0 < k = omega (arith, c .before .before .before .before .before .before .before .before .before .if1 .left) in
@@ -114,12 +115,11 @@ bump-requires c κs = let a = c .before .before .before .before .before .before 
     let lr : r < st .rows = h .below (k - 1) (omega (arith, near .within)) in
     (omega (arith, h .few, h .long), omega (arith, gone .counts (h .bound) (h .counts) (r * width + 2) (omega (arith, h .few)) (omega arith) (omega arith), h .early, h .room))
 
--- src/calls.rt:133:25
 mul-bump-2 : tie.Need-mul-bump-2
 mul-bump-2 c = let a = c .before .before .before .before .before .before .before .before .before .before .before .before .before .before .before .before .before .before .before .before in
-    let st = a .args .t1 in
-    let h = a .pre in
     let t : List ℕ = a .args .table .now in
+    let st : Calls = passed (a .args .t1) (a .args .clock) (a .args .t1 .buffers) in
+    let h = sound-passed (a .args .t1) t (a .pre .0) (a .pre .1) 300 (a .args .clock) (a .args .t1 .buffers) (omega arith) (omega (arith, a .pre .0 .fewer)) in
     let k = c .before .before .before .before .before .before .before .before .before .before .before .before .before .before .before .find-call .result in
     let near = c .before .before .before .before .before .before .before .before .before .before .before .before .before .before .before .find-call .ensures in
     let some : 0 < k = omega (arith, c .before .before .before .before .before .before .before .before .before .before .before .before .before .before .if1 .left) in
@@ -133,12 +133,11 @@ mul-bump-2 c = let a = c .before .before .before .before .before .before .before
     let len₂ : length u₂ ≡ length t = ap length e₂ ∙ length-set u₁ (r * width + 2) (getD u₁ (r * width + 2) 0 + 1) ∙ len in
     omega (arith, h .few)
 
--- src/calls.rt:133:25
 add-bump-2 : tie.Need-add-bump-2
 add-bump-2 c = let a = c .before .before .before .before .before .before .before .before .before .before .before .before .before .before .before .before .before .before .before .before in
-    let st = a .args .t1 in
-    let h = a .pre in
     let t : List ℕ = a .args .table .now in
+    let st : Calls = passed (a .args .t1) (a .args .clock) (a .args .t1 .buffers) in
+    let h = sound-passed (a .args .t1) t (a .pre .0) (a .pre .1) 300 (a .args .clock) (a .args .t1 .buffers) (omega arith) (omega (arith, a .pre .0 .fewer)) in
     let k = c .before .before .before .before .before .before .before .before .before .before .before .before .before .before .before .find-call .result in
     let near = c .before .before .before .before .before .before .before .before .before .before .before .before .before .before .before .find-call .ensures in
     let some : 0 < k = omega (arith, c .before .before .before .before .before .before .before .before .before .before .before .before .before .before .if1 .left) in
@@ -152,12 +151,11 @@ add-bump-2 c = let a = c .before .before .before .before .before .before .before
     let len₂ : length u₂ ≡ length t = ap length e₂ ∙ length-set u₁ (r * width + 2) (getD u₁ (r * width + 2) 0 + 1) ∙ len in
     omega (arith, h .few)
 
--- src/calls.rt:133:13
 bump-requires-2 : tie.Need-bump-requires-2
 bump-requires-2 c κs = let a = c .before .before .before .before .before .before .before .before .before .before .before .before .before .before .before .before .before .before .before .before in
-    let st = a .args .t1 in
-    let h = a .pre in
     let t : List ℕ = a .args .table .now in
+    let st : Calls = passed (a .args .t1) (a .args .clock) (a .args .t1 .buffers) in
+    let h = sound-passed (a .args .t1) t (a .pre .0) (a .pre .1) 300 (a .args .clock) (a .args .t1 .buffers) (omega arith) (omega (arith, a .pre .0 .fewer)) in
     let k = c .before .before .before .before .before .before .before .before .before .before .before .before .before .before .before .find-call .result in
     let near = c .before .before .before .before .before .before .before .before .before .before .before .before .before .before .before .find-call .ensures in
     let some : 0 < k = omega (arith, c .before .before .before .before .before .before .before .before .before .before .before .before .before .before .if1 .left) in
@@ -171,16 +169,14 @@ bump-requires-2 c κs = let a = c .before .before .before .before .before .befor
     let len₂ : length u₂ ≡ length t = ap length e₂ ∙ length-set u₁ (r * width + 2) (getD u₁ (r * width + 2) 0 + 1) ∙ len in
     (omega (arith, h .few, h .long, len₂), subst (λ (x : List ℕ). getD x (r * width + 3) 0 + 1 < 2 ^ 64) (sym e₂) (omega (arith, counts-shut st t (a .args .id) k h near some u₁ gone len (r * width + 3) (omega (arith, h .few)) (omega arith) (omega arith), h .early, h .room)))
 
--- src/calls.rt:134:13
 same-length-2 : tie.Need-same-length-2
 same-length-2 c = search needs
 
--- src/calls.rt:134:13
 returns-2 : tie.Need-returns-2
 returns-2 c = let a = c .before .before .before .before .before .before .before .before .before .before .before .before .before .before .before .before .before .before .before .before .before .before .before in
-    let st = a .args .t1 in
-    let h = a .pre in
     let t : List ℕ = a .args .table .now in
+    let st : Calls = passed (a .args .t1) (a .args .clock) (a .args .t1 .buffers) in
+    let h = sound-passed (a .args .t1) t (a .pre .0) (a .pre .1) 300 (a .args .clock) (a .args .t1 .buffers) (omega arith) (omega (arith, a .pre .0 .fewer)) in
     let k = c .before .before .before .before .before .before .before .before .before .before .before .before .before .before .before .before .before .before .find-call .result in
     let near = c .before .before .before .before .before .before .before .before .before .before .before .before .before .before .before .before .before .before .find-call .ensures in
     let some : 0 < k = omega (arith, c .before .before .before .before .before .before .before .before .before .before .before .before .before .before .before .before .before .if1 .left) in
@@ -196,12 +192,11 @@ returns-2 c = let a = c .before .before .before .before .before .before .before 
     let e : c .before .before .bump2 .last .0 ≡ _ = c .before .before .bump2 .ensures ∙ e₃ in
     (leave-backward st t (a .args .id) k h near some u₁ gone len _ (c .before .before .before .before .if2 .taken) e, next-backward st t (a .args .id) k h near some u₁ gone len _ (c .before .before .before .before .if2 .taken) e)
 
--- src/calls.rt:136:27
 mul-ticks : tie.Need-mul-ticks
 mul-ticks c = let a = c .before .before .before .before .before .before .before .before .before .before .before .before .before .before .before .before .before .before .before in
-    let st = a .args .t1 in
-    let h = a .pre in
     let t : List ℕ = a .args .table .now in
+    let st : Calls = passed (a .args .t1) (a .args .clock) (a .args .t1 .buffers) in
+    let h = sound-passed (a .args .t1) t (a .pre .0) (a .pre .1) 300 (a .args .clock) (a .args .t1 .buffers) (omega arith) (omega (arith, a .pre .0 .fewer)) in
     let k = c .before .before .before .before .before .before .before .before .before .before .before .before .before .before .find-call .result in
     let near = c .before .before .before .before .before .before .before .before .before .before .before .before .before .before .find-call .ensures in
     let some : 0 < k = omega (arith, c .before .before .before .before .before .before .before .before .before .before .before .before .before .if1 .left) in
@@ -215,12 +210,11 @@ mul-ticks c = let a = c .before .before .before .before .before .before .before 
     let len₂ : length u₂ ≡ length t = ap length e₂ ∙ length-set u₁ (r * width + 2) (getD u₁ (r * width + 2) 0 + 1) ∙ len in
     omega (arith, h .few)
 
--- src/calls.rt:136:27
 add-ticks : tie.Need-add-ticks
 add-ticks c = let a = c .before .before .before .before .before .before .before .before .before .before .before .before .before .before .before .before .before .before .before in
-    let st = a .args .t1 in
-    let h = a .pre in
     let t : List ℕ = a .args .table .now in
+    let st : Calls = passed (a .args .t1) (a .args .clock) (a .args .t1 .buffers) in
+    let h = sound-passed (a .args .t1) t (a .pre .0) (a .pre .1) 300 (a .args .clock) (a .args .t1 .buffers) (omega arith) (omega (arith, a .pre .0 .fewer)) in
     let k = c .before .before .before .before .before .before .before .before .before .before .before .before .before .before .find-call .result in
     let near = c .before .before .before .before .before .before .before .before .before .before .before .before .before .before .find-call .ensures in
     let some : 0 < k = omega (arith, c .before .before .before .before .before .before .before .before .before .before .before .before .before .if1 .left) in
@@ -234,12 +228,11 @@ add-ticks c = let a = c .before .before .before .before .before .before .before 
     let len₂ : length u₂ ≡ length t = ap length e₂ ∙ length-set u₁ (r * width + 2) (getD u₁ (r * width + 2) 0 + 1) ∙ len in
     omega (arith, h .few)
 
--- src/calls.rt:136:21
 mul-ticks-2 : tie.Need-mul-ticks-2
 mul-ticks-2 c = let a = c .before .before .before .before .before .before .before .before .before .before .before .before .before .before .before .before .before .before .before in
-    let st = a .args .t1 in
-    let h = a .pre in
     let t : List ℕ = a .args .table .now in
+    let st : Calls = passed (a .args .t1) (a .args .clock) (a .args .t1 .buffers) in
+    let h = sound-passed (a .args .t1) t (a .pre .0) (a .pre .1) 300 (a .args .clock) (a .args .t1 .buffers) (omega arith) (omega (arith, a .pre .0 .fewer)) in
     let k = c .before .before .before .before .before .before .before .before .before .before .before .before .before .before .find-call .result in
     let near = c .before .before .before .before .before .before .before .before .before .before .before .before .before .before .find-call .ensures in
     let some : 0 < k = omega (arith, c .before .before .before .before .before .before .before .before .before .before .before .before .before .if1 .left) in
@@ -253,12 +246,11 @@ mul-ticks-2 c = let a = c .before .before .before .before .before .before .befor
     let len₂ : length u₂ ≡ length t = ap length e₂ ∙ length-set u₁ (r * width + 2) (getD u₁ (r * width + 2) 0 + 1) ∙ len in
     omega (arith, h .few)
 
--- src/calls.rt:136:21
 slice-read-ticks : tie.Need-slice-read-ticks
 slice-read-ticks c = let a = c .before .before .before .before .before .before .before .before .before .before .before .before .before .before .before .before .before .before .before .before in
-    let st = a .args .t1 in
-    let h = a .pre in
     let t : List ℕ = a .args .table .now in
+    let st : Calls = passed (a .args .t1) (a .args .clock) (a .args .t1 .buffers) in
+    let h = sound-passed (a .args .t1) t (a .pre .0) (a .pre .1) 300 (a .args .clock) (a .args .t1 .buffers) (omega arith) (omega (arith, a .pre .0 .fewer)) in
     let k = c .before .before .before .before .before .before .before .before .before .before .before .before .before .before .before .find-call .result in
     let near = c .before .before .before .before .before .before .before .before .before .before .before .before .before .before .before .find-call .ensures in
     let some : 0 < k = omega (arith, c .before .before .before .before .before .before .before .before .before .before .before .before .before .before .if1 .left) in
@@ -272,12 +264,11 @@ slice-read-ticks c = let a = c .before .before .before .before .before .before .
     let len₂ : length u₂ ≡ length t = ap length e₂ ∙ length-set u₁ (r * width + 2) (getD u₁ (r * width + 2) 0 + 1) ∙ len in
     omega (arith, h .few, h .long, len₂)
 
--- src/calls.rt:138:12
 sub-if3 : tie.Need-sub-if3
 sub-if3 c = let a = c .before .before .before .before .before .before .before .before .before .before .before .before .before .before .before .before .before .before .before .before in
-    let st = a .args .t1 in
-    let h = a .pre in
     let t : List ℕ = a .args .table .now in
+    let st : Calls = passed (a .args .t1) (a .args .clock) (a .args .t1 .buffers) in
+    let h = sound-passed (a .args .t1) t (a .pre .0) (a .pre .1) 300 (a .args .clock) (a .args .t1 .buffers) (omega arith) (omega (arith, a .pre .0 .fewer)) in
     let k = c .before .before .before .before .before .before .before .before .before .before .before .before .before .before .before .find-call .result in
     let near = c .before .before .before .before .before .before .before .before .before .before .before .before .before .before .before .find-call .ensures in
     let some : 0 < k = omega (arith, c .before .before .before .before .before .before .before .before .before .before .before .before .before .before .if1 .left) in
@@ -291,16 +282,14 @@ sub-if3 c = let a = c .before .before .before .before .before .before .before .b
     let len₂ : length u₂ ≡ length t = ap length e₂ ∙ length-set u₁ (r * width + 2) (getD u₁ (r * width + 2) 0 + 1) ∙ len in
     omega (arith, c .slice-known5 .given (r * width + 5))
 
--- src/calls.rt:140:13
 same-length-3 : tie.Need-same-length-3
 same-length-3 c = search needs
 
--- src/calls.rt:140:13
 returns-3 : tie.Need-returns-3
 returns-3 c = let a = c .before .before .before .before .before .before .before .before .before .before .before .before .before .before .before .before .before .before .before .before .before in
-    let st = a .args .t1 in
-    let h = a .pre in
     let t : List ℕ = a .args .table .now in
+    let st : Calls = passed (a .args .t1) (a .args .clock) (a .args .t1 .buffers) in
+    let h = sound-passed (a .args .t1) t (a .pre .0) (a .pre .1) 300 (a .args .clock) (a .args .t1 .buffers) (omega arith) (omega (arith, a .pre .0 .fewer)) in
     let k = c .before .before .before .before .before .before .before .before .before .before .before .before .before .before .before .before .find-call .result in
     let near = c .before .before .before .before .before .before .before .before .before .before .before .before .before .before .before .before .find-call .ensures in
     let some : 0 < k = omega (arith, c .before .before .before .before .before .before .before .before .before .before .before .before .before .before .before .if1 .left) in
@@ -320,12 +309,11 @@ returns-3 c = let a = c .before .before .before .before .before .before .before 
       next-refused st t _ u₂ 13 refl (omega arith) refl refl (ap (λ (x : List ℕ). drop written x) e₂ ∙ kept-shut st t (a .args .id) k h near some u₁ gone len),
     )
 
--- src/calls.rt:142:36
 add-table : tie.Need-add-table
 add-table c = let a = c .before .before .before .before .before .before .before .before .before .before .before .before .before .before .before .before .before .before .before .before .before in
-    let st = a .args .t1 in
-    let h = a .pre in
     let t : List ℕ = a .args .table .now in
+    let st : Calls = passed (a .args .t1) (a .args .clock) (a .args .t1 .buffers) in
+    let h = sound-passed (a .args .t1) t (a .pre .0) (a .pre .1) 300 (a .args .clock) (a .args .t1 .buffers) (omega arith) (omega (arith, a .pre .0 .fewer)) in
     let k = c .before .before .before .before .before .before .before .before .before .before .before .before .before .before .before .before .find-call .result in
     let near = c .before .before .before .before .before .before .before .before .before .before .before .before .before .before .before .before .find-call .ensures in
     let some : 0 < k = omega (arith, c .before .before .before .before .before .before .before .before .before .before .before .before .before .before .before .if1 .left) in
@@ -339,12 +327,11 @@ add-table c = let a = c .before .before .before .before .before .before .before 
     let len₂ : length u₂ ≡ length t = ap length e₂ ∙ length-set u₁ (r * width + 2) (getD u₁ (r * width + 2) 0 + 1) ∙ len in
     omega (arith, c .if3 .left, c .before .slice-known5 .given (r * width + 5))
 
--- src/calls.rt:142:15
 mul-table : tie.Need-mul-table
 mul-table c = let a = c .before .before .before .before .before .before .before .before .before .before .before .before .before .before .before .before .before .before .before .before .before in
-    let st = a .args .t1 in
-    let h = a .pre in
     let t : List ℕ = a .args .table .now in
+    let st : Calls = passed (a .args .t1) (a .args .clock) (a .args .t1 .buffers) in
+    let h = sound-passed (a .args .t1) t (a .pre .0) (a .pre .1) 300 (a .args .clock) (a .args .t1 .buffers) (omega arith) (omega (arith, a .pre .0 .fewer)) in
     let k = c .before .before .before .before .before .before .before .before .before .before .before .before .before .before .before .before .find-call .result in
     let near = c .before .before .before .before .before .before .before .before .before .before .before .before .before .before .before .before .find-call .ensures in
     let some : 0 < k = omega (arith, c .before .before .before .before .before .before .before .before .before .before .before .before .before .before .before .if1 .left) in
@@ -358,12 +345,11 @@ mul-table c = let a = c .before .before .before .before .before .before .before 
     let len₂ : length u₂ ≡ length t = ap length e₂ ∙ length-set u₁ (r * width + 2) (getD u₁ (r * width + 2) 0 + 1) ∙ len in
     omega (arith, h .few)
 
--- src/calls.rt:142:15
 add-table-2 : tie.Need-add-table-2
 add-table-2 c = let a = c .before .before .before .before .before .before .before .before .before .before .before .before .before .before .before .before .before .before .before .before .before in
-    let st = a .args .t1 in
-    let h = a .pre in
     let t : List ℕ = a .args .table .now in
+    let st : Calls = passed (a .args .t1) (a .args .clock) (a .args .t1 .buffers) in
+    let h = sound-passed (a .args .t1) t (a .pre .0) (a .pre .1) 300 (a .args .clock) (a .args .t1 .buffers) (omega arith) (omega (arith, a .pre .0 .fewer)) in
     let k = c .before .before .before .before .before .before .before .before .before .before .before .before .before .before .before .before .find-call .result in
     let near = c .before .before .before .before .before .before .before .before .before .before .before .before .before .before .before .before .find-call .ensures in
     let some : 0 < k = omega (arith, c .before .before .before .before .before .before .before .before .before .before .before .before .before .before .before .if1 .left) in
@@ -377,12 +363,11 @@ add-table-2 c = let a = c .before .before .before .before .before .before .befor
     let len₂ : length u₂ ≡ length t = ap length e₂ ∙ length-set u₁ (r * width + 2) (getD u₁ (r * width + 2) 0 + 1) ∙ len in
     omega (arith, h .few)
 
--- src/calls.rt:142:9
 mul-table-2 : tie.Need-mul-table-2
 mul-table-2 c = let a = c .before .before .before .before .before .before .before .before .before .before .before .before .before .before .before .before .before .before .before .before .before in
-    let st = a .args .t1 in
-    let h = a .pre in
     let t : List ℕ = a .args .table .now in
+    let st : Calls = passed (a .args .t1) (a .args .clock) (a .args .t1 .buffers) in
+    let h = sound-passed (a .args .t1) t (a .pre .0) (a .pre .1) 300 (a .args .clock) (a .args .t1 .buffers) (omega arith) (omega (arith, a .pre .0 .fewer)) in
     let k = c .before .before .before .before .before .before .before .before .before .before .before .before .before .before .before .before .find-call .result in
     let near = c .before .before .before .before .before .before .before .before .before .before .before .before .before .before .before .before .find-call .ensures in
     let some : 0 < k = omega (arith, c .before .before .before .before .before .before .before .before .before .before .before .before .before .before .before .if1 .left) in
@@ -396,12 +381,11 @@ mul-table-2 c = let a = c .before .before .before .before .before .before .befor
     let len₂ : length u₂ ≡ length t = ap length e₂ ∙ length-set u₁ (r * width + 2) (getD u₁ (r * width + 2) 0 + 1) ∙ len in
     omega (arith, h .few)
 
--- src/calls.rt:142:9
 slice-write-table : tie.Need-slice-write-table
 slice-write-table c = let a = c .before .before .before .before .before .before .before .before .before .before .before .before .before .before .before .before .before .before .before .before .before in
-    let st = a .args .t1 in
-    let h = a .pre in
     let t : List ℕ = a .args .table .now in
+    let st : Calls = passed (a .args .t1) (a .args .clock) (a .args .t1 .buffers) in
+    let h = sound-passed (a .args .t1) t (a .pre .0) (a .pre .1) 300 (a .args .clock) (a .args .t1 .buffers) (omega arith) (omega (arith, a .pre .0 .fewer)) in
     let k = c .before .before .before .before .before .before .before .before .before .before .before .before .before .before .before .before .find-call .result in
     let near = c .before .before .before .before .before .before .before .before .before .before .before .before .before .before .before .before .find-call .ensures in
     let some : 0 < k = omega (arith, c .before .before .before .before .before .before .before .before .before .before .before .before .before .before .before .if1 .left) in
@@ -415,12 +399,11 @@ slice-write-table c = let a = c .before .before .before .before .before .before 
     let len₂ : length u₂ ≡ length t = ap length e₂ ∙ length-set u₁ (r * width + 2) (getD u₁ (r * width + 2) 0 + 1) ∙ len in
     omega (arith, h .few, h .long, len₂)
 
--- src/calls.rt:114:5
 same-length-4 : tie.Need-same-length-4
 same-length-4 c = let a = c .before .before .before .before .before .before .before .before .before .before .before .before .before .before .before .before .before .before .before .before .before in
-    let st = a .args .t1 in
-    let h = a .pre in
     let t : List ℕ = a .args .table .now in
+    let st : Calls = passed (a .args .t1) (a .args .clock) (a .args .t1 .buffers) in
+    let h = sound-passed (a .args .t1) t (a .pre .0) (a .pre .1) 300 (a .args .clock) (a .args .t1 .buffers) (omega arith) (omega (arith, a .pre .0 .fewer)) in
     let k = c .before .before .before .before .before .before .before .before .before .before .before .before .before .before .before .before .find-call .result in
     let near = c .before .before .before .before .before .before .before .before .before .before .before .before .before .before .before .before .find-call .ensures in
     let some : 0 < k = omega (arith, c .before .before .before .before .before .before .before .before .before .before .before .before .before .before .before .if1 .left) in
@@ -434,12 +417,11 @@ same-length-4 c = let a = c .before .before .before .before .before .before .bef
     let len₂ : length u₂ ≡ length t = ap length e₂ ∙ length-set u₁ (r * width + 2) (getD u₁ (r * width + 2) 0 + 1) ∙ len in
     length-set u₂ (r * width + 5) _ ∙ len₂
 
--- src/calls.rt:114:5
 returns-4 : tie.Need-returns-4
 returns-4 c = let a = c .before .before .before .before .before .before .before .before .before .before .before .before .before .before .before .before .before .before .before .before .before in
-    let st = a .args .t1 in
-    let h = a .pre in
     let t : List ℕ = a .args .table .now in
+    let st : Calls = passed (a .args .t1) (a .args .clock) (a .args .t1 .buffers) in
+    let h = sound-passed (a .args .t1) t (a .pre .0) (a .pre .1) 300 (a .args .clock) (a .args .t1 .buffers) (omega arith) (omega (arith, a .pre .0 .fewer)) in
     let k = c .before .before .before .before .before .before .before .before .before .before .before .before .before .before .before .before .find-call .result in
     let near = c .before .before .before .before .before .before .before .before .before .before .before .before .before .before .before .before .find-call .ensures in
     let some : 0 < k = omega (arith, c .before .before .before .before .before .before .before .before .before .before .before .before .before .before .before .if1 .left) in
@@ -463,6 +445,7 @@ pub leave-spec : {M : Type 1} → statement M
 leave-spec =
     tie.close
     (tie.spec
+    add-self
     find-call-requires
     same-length
     returns
