@@ -1,7 +1,8 @@
 //! A second, independent reading of trace logs after Paper 01: the header's
-//! tests, the record reader, and the walk from record to record with the
-//! grammar. It covers refusals 1 to 8. With it comes a generator of logs,
-//! sound and damaged, for comparing another implementation with this one.
+//! tests, the record reader, the walk from record to record with the grammar,
+//! replay with its table, and the comparison of two times. With it come
+//! generators of logs, sound and damaged, for comparing another implementation
+//! with this one.
 //!
 //! Nothing here is quick or clever: each function follows one passage of the
 //! paper and names it.
