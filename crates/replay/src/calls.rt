@@ -1,9 +1,9 @@
-// The call stack and the clock, by value: each record's step takes the state and hands back the next.
+// The call stack and the clock, by value: each record's method takes the state and hands back the next.
 ghost use mathlib.Core.Path.{_≡_};
 ghost use Prim.Native.Nat.{ℕ, _+_, _*_, _^_, _<_, _≤_};
 ghost use lib.ListN.{length};
-ghost use Rattle.replay.specs.Step.{entered, left, moved, step};
-ghost use Rattle.replay.specs.View.{RowsBelow, Bounded, Nearest, Abandoned, Sound, viewed, outcomeOf, Next, After, Fresh, passed, refusedBy};
+ghost use Rattle.replay.specs.Step.{entered, left, moved, atClock};
+ghost use Rattle.replay.specs.View.{RowsBelow, Bounded, Nearest, Abandoned, Sound, viewed, Acted, After, Fresh, pushed, popped, stayed};
 use crate::table::ABANDONED;
 use crate::table::BACKWARD;
 use crate::table::CLOSED;
@@ -14,13 +14,14 @@ use crate::table::WIDTH;
 use crate::table::bump;
 use crate::table::find_row;
 use fdr::record::Record;
+use fdr::refusal::Refusal;
 
 const DEEPEST: usize = 256;
 
 const LARGEST: u64 = 18446744073709551615;
 
-// The open calls, each by its row and its clock at entry; the numbers of rows, records and buffers so
-// far; and the number of the refusal that the last record met, or 0.
+// The open calls, each by its row and its clock at entry, and the numbers of rows, records and buffers
+// so far.
 pub struct Calls {
     since: [u64; 256],
     row: [u16; 256],
@@ -29,7 +30,15 @@ pub struct Calls {
     pub rows: usize,
     pub records: u64,
     pub buffers: u64,
-    pub refused: u64,
+}
+
+// What a record does to the open calls, once it is counted in the table: it opens one, closes those
+// down to a depth, leaves them as they are, or is refused.
+pub enum Act {
+    Push { row: u16, rows: usize, clock: u64 },
+    Pop { depth: usize, clock: u64 },
+    Stay { clock: u64, more: u64 },
+    Refuse(Refusal),
 }
 
 // The depth of the nearest open call of an id, or 0.
@@ -73,14 +82,36 @@ impl Calls {
             rows: 0,
             records: 0,
             buffers: 0,
-            refused: 0,
         }
     }
 
-    // Past a record that changes no call.
-    fn pass(mut self, clock: u64, more: u64) -> Self
-        requires { ⌜ (self .records < 2 ^ 24) × (self .buffers ≤ self .records) × (more ≤ 1) ⌝ }
-        ensures { λ r. ⌜ r ≡ passed self clock (self .buffers + more) ⌝ }
+    pub fn push(mut self, row: u16, rows: usize, clock: u64) -> Self
+        requires { ⌜ (self .depth < 256) × (self .records < 2 ^ 24) ⌝ }
+        ensures { λ r. ⌜ r ≡ pushed self row rows clock ⌝ }
+    {
+        let depth = self.depth;
+        self.since[depth] = clock;
+        self.row[depth] = row;
+        self.depth = depth + 1;
+        self.clock = clock;
+        self.rows = rows;
+        self.records = self.records + 1;
+        self
+    }
+
+    pub fn pop(mut self, depth: usize, clock: u64) -> Self
+        requires { ⌜ self .records < 2 ^ 24 ⌝ }
+        ensures { λ r. ⌜ r ≡ popped self depth clock ⌝ }
+    {
+        self.depth = depth;
+        self.clock = clock;
+        self.records = self.records + 1;
+        self
+    }
+
+    pub fn stay(mut self, clock: u64, more: u64) -> Self
+        requires { ⌜ (self .records < 2 ^ 24) × (self .buffers + more ≤ 2 ^ 24) ⌝ }
+        ensures { λ r. ⌜ r ≡ stayed self clock more ⌝ }
     {
         self.clock = clock;
         self.records = self.records + 1;
@@ -88,94 +119,73 @@ impl Calls {
         self
     }
 
-    // Past a record that is refused.
-    fn refuse(mut self, number: u64) -> Self
-        requires { ⌜ self .records < 2 ^ 24 ⌝ }
-        ensures { λ r. ⌜ r ≡ refusedBy self number ⌝ }
-    {
-        self.records = self.records + 1;
-        self.refused = number;
-        self
-    }
-
-    // Tests 11 and 12, and opens a call at a clock.
-    fn enter(mut self, table: &mut [u64], id: u64, clock: u64) -> Self
+    // Tests 11 and 12, and counts an entry at a clock.
+    fn enter(self, table: &mut [u64], id: u64, clock: u64) -> Act
         requires { ⌜ Sound 0 self (now table) × (self .records < 2 ^ 24) ⌝ }
-        ensures same { λ r. ⌜ outcomeOf r (now (table .exit)) ≡ entered (viewed (passed self clock (self .buffers)) (now (table .entry))) id ⌝ }
-        ensures next { λ r. ⌜ Next (passed self clock (self .buffers)) (now (table .entry)) r (now (table .exit)) ⌝ }
+        ensures { λ r. ⌜ Acted self (entered (atClock (viewed self (now (table .entry))) clock) id) (now (table .entry)) r (now (table .exit)) ⌝ }
     {
-        self.clock = clock;
-        self.records = self.records + 1;
         let depth = self.depth;
         let rows = self.rows;
         if DEEPEST <= depth {
-            self.refused = 11;
-            return self;
+            return Act::Refuse(Refusal::Depth);
         }
         let r = find_row(table, rows, id);
         if r < rows {
             bump(table, r * WIDTH + ENTERED);
-            self.since[depth] = clock;
-            self.row[depth] = r as u16;
-            self.depth = depth + 1;
-            return self;
+            return Act::Push {
+                row: r as u16,
+                rows,
+                clock,
+            };
         }
         if MOST_ROWS <= rows {
-            self.refused = 12;
-            return self;
+            return Act::Refuse(Refusal::FunctionCount);
         }
         table[r * WIDTH] = id;
         table[r * WIDTH + ENTERED] = 1;
-        self.since[depth] = clock;
-        self.row[depth] = r as u16;
-        self.depth = depth + 1;
-        self.rows = rows + 1;
-        self
+        Act::Push {
+            row: r as u16,
+            rows: rows + 1,
+            clock,
+        }
     }
 
-    // Tests 10 and 13, and closes a call at a clock.
-    fn leave(mut self, table: &mut [u64], id: u64, clock: u64) -> Self
+    // Tests 10 and 13, and counts an exit at a clock.
+    fn leave(self, table: &mut [u64], id: u64, clock: u64) -> Act
         requires { ⌜ Sound 0 self (now table) × (self .records < 2 ^ 24) ⌝ }
-        ensures same { λ r. ⌜ outcomeOf r (now (table .exit)) ≡ left (viewed (passed self clock (self .buffers)) (now (table .entry))) id ⌝ }
-        ensures next { λ r. ⌜ Next (passed self clock (self .buffers)) (now (table .entry)) r (now (table .exit)) ⌝ }
+        ensures { λ r. ⌜ Acted self (left (atClock (viewed self (now (table .entry))) clock) id) (now (table .entry)) r (now (table .exit)) ⌝ }
     {
-        self.clock = clock;
-        self.records = self.records + 1;
         let depth = self.depth;
         let k = find_call(&self.row, depth, table, id);
         if k == 0 {
-            self.refused = 10;
-            return self;
+            return Act::Refuse(Refusal::NoOpenCall);
         }
         abandon(&self.row, depth, k, table);
         let j = k - 1;
         let r = self.row[j] as usize;
         let since = self.since[j];
-        self.depth = j;
         bump(table, r * WIDTH + CLOSED);
         if clock < since {
             bump(table, r * WIDTH + BACKWARD);
-            return self;
+            return Act::Pop { depth: j, clock };
         }
         let ticks = table[r * WIDTH + TICKS];
         let more = clock - since;
         if LARGEST - ticks < more {
-            self.refused = 13;
-            return self;
+            return Act::Refuse(Refusal::Ticks);
         }
         table[r * WIDTH + TICKS] = ticks + more;
-        self
+        Act::Pop { depth: j, clock }
     }
 
     // Test 9, and the call that a function record opens or closes.
-    fn call(self, table: &mut [u64], action: u8, id: u64, delta: u64) -> Self
+    fn call(self, table: &mut [u64], action: u8, id: u64, delta: u64) -> Act
         requires { ⌜ Sound 0 self (now table) × (self .records < 2 ^ 24) ⌝ }
-        ensures same { λ r. ⌜ outcomeOf r (now (table .exit)) ≡ moved (viewed self (now (table .entry))) action id delta ⌝ }
-        ensures next { λ r. ⌜ Next (passed self 0 (self .buffers)) (now (table .entry)) r (now (table .exit)) ⌝ }
+        ensures { λ r. ⌜ Acted self (moved (viewed self (now (table .entry))) action id delta) (now (table .entry)) r (now (table .exit)) ⌝ }
     {
         let clock = self.clock;
         if LARGEST - delta < clock {
-            return self.refuse(9);
+            return Act::Refuse(Refusal::Clock);
         }
         let now = clock + delta;
         if action == Record::ENTRY {
@@ -187,21 +197,27 @@ impl Calls {
         self.leave(table, id, now)
     }
 
-    // One record. The state is handed on by value once, to the method that changes it.
-    pub fn step(self, table: &mut [u64], record: Record) -> Self
+    // What one record does. Counts and sums go to the table at once; the calls are the caller's to change,
+    // by the method of the act, so that only an entry copies them.
+    pub fn act(self, table: &mut [u64], record: Record) -> Act
         requires { ⌜ Sound 0 self (now table) × (self .records < 2 ^ 24) ⌝ }
-        ensures same { λ r. ⌜ outcomeOf r (now (table .exit)) ≡ step (viewed self (now (table .entry))) «record» ⌝ }
-        ensures next { λ r. ⌜ After self «record» (now (table .entry)) r (now (table .exit)) ⌝ }
+        ensures { λ r. ⌜ After self «record» (now (table .entry)) r (now (table .exit)) ⌝ }
     {
         let clock = self.clock;
         match record {
             Record::Function { action, id, delta } => {
                 self.call(table, action, id as u64, delta as u64)
             }
-            Record::NewCpuId { cpu: _, tsc } => self.pass(tsc, 0),
-            Record::TscWrap { tsc } => self.pass(tsc, 0),
-            Record::NewBuffer { thread: _ } => self.pass(clock, 1),
-            _ => self.pass(clock, 0),
+            Record::NewCpuId { cpu: _, tsc } => Act::Stay {
+                clock: tsc,
+                more: 0,
+            },
+            Record::TscWrap { tsc } => Act::Stay {
+                clock: tsc,
+                more: 0,
+            },
+            Record::NewBuffer { thread: _ } => Act::Stay { clock, more: 1 },
+            _ => Act::Stay { clock, more: 0 },
         }
     }
 }

@@ -1,9 +1,8 @@
 -- `replay::calls::Calls::leave` meets its contract: each answer by the law of an exit that applies. Assumes nothing.
 use Rattle.replay.proofs.Leaving.{leave-none, counts-shut, kept-shut, leave-backward, next-backward, leave-over, leave-measured, next-measured}
-use Rattle.replay.proofs.Entering.{is-stopped, next-refused}
-use Rattle.replay.proofs.Stepping.{sound-passed}
+use Rattle.replay.proofs.Stepping.{counted, ready}
 use Rattle.replay.specs.declared.calls.Calls.{Calls}
-use Rattle.replay.specs.View.{passed}
+use Rattle.replay.specs.View.{viewed}
 use Rattle.replay.proofs.Rows.{bounded-more}
 use Rattle.replay.specs.Row.{width, written}
 use lib.ListN.{length, getD, set, drop, length-set}
@@ -15,9 +14,6 @@ use borrow.Author.Needs.{needs}
 use Rattle.replay.proofs.calls.Calls.leave.Statement.{statement}
 use Rattle.replay.proofs.calls.Calls.leave.Tie as tie
 
-add-self : tie.Need-add-self
-add-self c = search needs
-
 find-call-requires : tie.Need-find-call-requires
 find-call-requires c κs = let h = c .before .before .before .before .pre .0 in (h .shallow, (λ j l. omega (arith, h .below j l, h .few)), h .long)
 
@@ -25,18 +21,19 @@ same-length : tie.Need-same-length
 same-length c = search needs
 
 returns : tie.Need-returns
+unfolding viewed
 returns c = let a = c .before .before .before .before .before .before in
     let t : List ℕ = a .args .table .now in
-    let st : Calls = passed (a .args .t1) (a .args .clock) (a .args .t1 .buffers) in
-    let h = sound-passed (a .args .t1) t (a .pre .0) (a .pre .1) 300 (a .args .clock) (a .args .t1 .buffers) (omega arith) (omega (arith, a .pre .0 .fewer)) in
+    let st : Calls = counted (a .args .t1) (a .args .clock) in
+    let h = ready (a .args .t1) t (a .pre .0) (a .pre .1) (a .args .clock) in
     let k = c .before .find-call .result in
-    (is-stopped _ t 10 refl (omega arith) ∙ leave-none st t (a .args .id) k h (c .before .find-call .ensures) (c .if1 .taken), next-refused st t _ t 10 refl (omega arith) refl refl refl)
+    record { outcome = leave-none st t (a .args .id) k h (c .before .find-call .ensures) (c .if1 .taken); quiet = refl; holds = tt; kept = refl }
 
 abandon-requires : tie.Need-abandon-requires
 abandon-requires c κs = let a = c .before .before .before .before .before .before .before .before .before in
     let t : List ℕ = a .args .table .now in
-    let st : Calls = passed (a .args .t1) (a .args .clock) (a .args .t1 .buffers) in
-    let h = sound-passed (a .args .t1) t (a .pre .0) (a .pre .1) 300 (a .args .clock) (a .args .t1 .buffers) (omega arith) (omega (arith, a .pre .0 .fewer)) in
+    let st : Calls = counted (a .args .t1) (a .args .clock) in
+    let h = ready (a .args .t1) t (a .pre .0) (a .pre .1) (a .args .clock) in
     let near = c .before .before .before .before .find-call .ensures in
     (near .within, h .shallow, (λ j l. omega (arith, h .below j l, h .few)), h .long, bounded-more t (h .bound) (2 ^ 40) (omega (arith, h .early, h .room)) (h .counts))
 
@@ -50,19 +47,7 @@ element-copy-out-r : tie.Need-element-copy-out-r
 element-copy-out-r c = search needs
 
 cast-r : tie.Need-cast-r
-cast-r c = let a = c .before .before .before .before .before .before .before .before .before .before .before .before .before in
-    let t : List ℕ = a .args .table .now in
-    let st : Calls = passed (a .args .t1) (a .args .clock) (a .args .t1 .buffers) in
-    let h = sound-passed (a .args .t1) t (a .pre .0) (a .pre .1) 300 (a .args .clock) (a .args .t1 .buffers) (omega arith) (omega (arith, a .pre .0 .fewer)) in
-    let k = c .before .before .before .before .before .before .before .before .find-call .result in
-    let near = c .before .before .before .before .before .before .before .before .find-call .ensures in
-    let some : 0 < k = omega (arith, c .before .before .before .before .before .before .before .if1 .left) in
-    let r : ℕ = getD (st .row) (k - 1) 0 in
-    let u₁ : List ℕ = c .before .before .before .abandon .last .1 .1 .1 .0 in
-    let gone = c .before .before .before .abandon .ensures in
-    let len : length u₁ ≡ length t = c .before .before .before .abandon .kept .1 .1 .1 .0 in
-    let lr : r < st .rows = h .below (k - 1) (omega (arith, near .within)) in
-    omega (arith, h .few)
+cast-r c = search needs
 
 mul-since : tie.Need-mul-since
 mul-since c = search needs
@@ -73,8 +58,8 @@ element-copy-out-since c = search needs
 mul-bump : tie.Need-mul-bump
 mul-bump c = let a = c .before .before .before .before .before .before .before .before .before .before .before .before .before .before .before in
     let t : List ℕ = a .args .table .now in
-    let st : Calls = passed (a .args .t1) (a .args .clock) (a .args .t1 .buffers) in
-    let h = sound-passed (a .args .t1) t (a .pre .0) (a .pre .1) 300 (a .args .clock) (a .args .t1 .buffers) (omega arith) (omega (arith, a .pre .0 .fewer)) in
+    let st : Calls = counted (a .args .t1) (a .args .clock) in
+    let h = ready (a .args .t1) t (a .pre .0) (a .pre .1) (a .args .clock) in
     let k = c .before .before .before .before .before .before .before .before .before .before .find-call .result in
     let near = c .before .before .before .before .before .before .before .before .before .before .find-call .ensures in
     let some : 0 < k = omega (arith, c .before .before .before .before .before .before .before .before .before .if1 .left) in
@@ -88,8 +73,8 @@ mul-bump c = let a = c .before .before .before .before .before .before .before .
 add-bump : tie.Need-add-bump
 add-bump c = let a = c .before .before .before .before .before .before .before .before .before .before .before .before .before .before .before in
     let t : List ℕ = a .args .table .now in
-    let st : Calls = passed (a .args .t1) (a .args .clock) (a .args .t1 .buffers) in
-    let h = sound-passed (a .args .t1) t (a .pre .0) (a .pre .1) 300 (a .args .clock) (a .args .t1 .buffers) (omega arith) (omega (arith, a .pre .0 .fewer)) in
+    let st : Calls = counted (a .args .t1) (a .args .clock) in
+    let h = ready (a .args .t1) t (a .pre .0) (a .pre .1) (a .args .clock) in
     let k = c .before .before .before .before .before .before .before .before .before .before .find-call .result in
     let near = c .before .before .before .before .before .before .before .before .before .before .find-call .ensures in
     let some : 0 < k = omega (arith, c .before .before .before .before .before .before .before .before .before .if1 .left) in
@@ -103,8 +88,8 @@ add-bump c = let a = c .before .before .before .before .before .before .before .
 bump-requires : tie.Need-bump-requires
 bump-requires c κs = let a = c .before .before .before .before .before .before .before .before .before .before .before .before .before .before .before in
     let t : List ℕ = a .args .table .now in
-    let st : Calls = passed (a .args .t1) (a .args .clock) (a .args .t1 .buffers) in
-    let h = sound-passed (a .args .t1) t (a .pre .0) (a .pre .1) 300 (a .args .clock) (a .args .t1 .buffers) (omega arith) (omega (arith, a .pre .0 .fewer)) in
+    let st : Calls = counted (a .args .t1) (a .args .clock) in
+    let h = ready (a .args .t1) t (a .pre .0) (a .pre .1) (a .args .clock) in
     let k = c .before .before .before .before .before .before .before .before .before .before .find-call .result in
     let near = c .before .before .before .before .before .before .before .before .before .before .find-call .ensures in
     let some : 0 < k = omega (arith, c .before .before .before .before .before .before .before .before .before .if1 .left) in
@@ -118,8 +103,8 @@ bump-requires c κs = let a = c .before .before .before .before .before .before 
 mul-bump-2 : tie.Need-mul-bump-2
 mul-bump-2 c = let a = c .before .before .before .before .before .before .before .before .before .before .before .before .before .before .before .before .before .before .before .before in
     let t : List ℕ = a .args .table .now in
-    let st : Calls = passed (a .args .t1) (a .args .clock) (a .args .t1 .buffers) in
-    let h = sound-passed (a .args .t1) t (a .pre .0) (a .pre .1) 300 (a .args .clock) (a .args .t1 .buffers) (omega arith) (omega (arith, a .pre .0 .fewer)) in
+    let st : Calls = counted (a .args .t1) (a .args .clock) in
+    let h = ready (a .args .t1) t (a .pre .0) (a .pre .1) (a .args .clock) in
     let k = c .before .before .before .before .before .before .before .before .before .before .before .before .before .before .before .find-call .result in
     let near = c .before .before .before .before .before .before .before .before .before .before .before .before .before .before .before .find-call .ensures in
     let some : 0 < k = omega (arith, c .before .before .before .before .before .before .before .before .before .before .before .before .before .before .if1 .left) in
@@ -136,8 +121,8 @@ mul-bump-2 c = let a = c .before .before .before .before .before .before .before
 add-bump-2 : tie.Need-add-bump-2
 add-bump-2 c = let a = c .before .before .before .before .before .before .before .before .before .before .before .before .before .before .before .before .before .before .before .before in
     let t : List ℕ = a .args .table .now in
-    let st : Calls = passed (a .args .t1) (a .args .clock) (a .args .t1 .buffers) in
-    let h = sound-passed (a .args .t1) t (a .pre .0) (a .pre .1) 300 (a .args .clock) (a .args .t1 .buffers) (omega arith) (omega (arith, a .pre .0 .fewer)) in
+    let st : Calls = counted (a .args .t1) (a .args .clock) in
+    let h = ready (a .args .t1) t (a .pre .0) (a .pre .1) (a .args .clock) in
     let k = c .before .before .before .before .before .before .before .before .before .before .before .before .before .before .before .find-call .result in
     let near = c .before .before .before .before .before .before .before .before .before .before .before .before .before .before .before .find-call .ensures in
     let some : 0 < k = omega (arith, c .before .before .before .before .before .before .before .before .before .before .before .before .before .before .if1 .left) in
@@ -154,8 +139,8 @@ add-bump-2 c = let a = c .before .before .before .before .before .before .before
 bump-requires-2 : tie.Need-bump-requires-2
 bump-requires-2 c κs = let a = c .before .before .before .before .before .before .before .before .before .before .before .before .before .before .before .before .before .before .before .before in
     let t : List ℕ = a .args .table .now in
-    let st : Calls = passed (a .args .t1) (a .args .clock) (a .args .t1 .buffers) in
-    let h = sound-passed (a .args .t1) t (a .pre .0) (a .pre .1) 300 (a .args .clock) (a .args .t1 .buffers) (omega arith) (omega (arith, a .pre .0 .fewer)) in
+    let st : Calls = counted (a .args .t1) (a .args .clock) in
+    let h = ready (a .args .t1) t (a .pre .0) (a .pre .1) (a .args .clock) in
     let k = c .before .before .before .before .before .before .before .before .before .before .before .before .before .before .before .find-call .result in
     let near = c .before .before .before .before .before .before .before .before .before .before .before .before .before .before .before .find-call .ensures in
     let some : 0 < k = omega (arith, c .before .before .before .before .before .before .before .before .before .before .before .before .before .before .if1 .left) in
@@ -173,10 +158,11 @@ same-length-2 : tie.Need-same-length-2
 same-length-2 c = search needs
 
 returns-2 : tie.Need-returns-2
+unfolding viewed
 returns-2 c = let a = c .before .before .before .before .before .before .before .before .before .before .before .before .before .before .before .before .before .before .before .before .before .before .before in
     let t : List ℕ = a .args .table .now in
-    let st : Calls = passed (a .args .t1) (a .args .clock) (a .args .t1 .buffers) in
-    let h = sound-passed (a .args .t1) t (a .pre .0) (a .pre .1) 300 (a .args .clock) (a .args .t1 .buffers) (omega arith) (omega (arith, a .pre .0 .fewer)) in
+    let st : Calls = counted (a .args .t1) (a .args .clock) in
+    let h = ready (a .args .t1) t (a .pre .0) (a .pre .1) (a .args .clock) in
     let k = c .before .before .before .before .before .before .before .before .before .before .before .before .before .before .before .before .before .before .find-call .result in
     let near = c .before .before .before .before .before .before .before .before .before .before .before .before .before .before .before .before .before .before .find-call .ensures in
     let some : 0 < k = omega (arith, c .before .before .before .before .before .before .before .before .before .before .before .before .before .before .before .before .before .if1 .left) in
@@ -190,13 +176,14 @@ returns-2 c = let a = c .before .before .before .before .before .before .before 
     let len₂ : length u₂ ≡ length t = ap length e₂ ∙ length-set u₁ (r * width + 2) (getD u₁ (r * width + 2) 0 + 1) ∙ len in
     let e₃ = ap (λ (x : List ℕ). set x (r * width + 3) (getD x (r * width + 3) 0 + 1)) e₂ in
     let e : c .before .before .bump2 .last .0 ≡ _ = c .before .before .bump2 .ensures ∙ e₃ in
-    (leave-backward st t (a .args .id) k h near some u₁ gone len _ (c .before .before .before .before .if2 .taken) e, next-backward st t (a .args .id) k h near some u₁ gone len _ (c .before .before .before .before .if2 .taken) e)
+    let n = next-backward st t (a .args .id) k h near some u₁ gone len _ (c .before .before .before .before .if2 .taken) e in
+    record { outcome = leave-backward st t (a .args .id) k h near some u₁ gone len _ (c .before .before .before .before .if2 .taken) e; quiet = refl; holds = n .0; kept = n .1 }
 
 mul-ticks : tie.Need-mul-ticks
 mul-ticks c = let a = c .before .before .before .before .before .before .before .before .before .before .before .before .before .before .before .before .before .before .before in
     let t : List ℕ = a .args .table .now in
-    let st : Calls = passed (a .args .t1) (a .args .clock) (a .args .t1 .buffers) in
-    let h = sound-passed (a .args .t1) t (a .pre .0) (a .pre .1) 300 (a .args .clock) (a .args .t1 .buffers) (omega arith) (omega (arith, a .pre .0 .fewer)) in
+    let st : Calls = counted (a .args .t1) (a .args .clock) in
+    let h = ready (a .args .t1) t (a .pre .0) (a .pre .1) (a .args .clock) in
     let k = c .before .before .before .before .before .before .before .before .before .before .before .before .before .before .find-call .result in
     let near = c .before .before .before .before .before .before .before .before .before .before .before .before .before .before .find-call .ensures in
     let some : 0 < k = omega (arith, c .before .before .before .before .before .before .before .before .before .before .before .before .before .if1 .left) in
@@ -213,8 +200,8 @@ mul-ticks c = let a = c .before .before .before .before .before .before .before 
 add-ticks : tie.Need-add-ticks
 add-ticks c = let a = c .before .before .before .before .before .before .before .before .before .before .before .before .before .before .before .before .before .before .before in
     let t : List ℕ = a .args .table .now in
-    let st : Calls = passed (a .args .t1) (a .args .clock) (a .args .t1 .buffers) in
-    let h = sound-passed (a .args .t1) t (a .pre .0) (a .pre .1) 300 (a .args .clock) (a .args .t1 .buffers) (omega arith) (omega (arith, a .pre .0 .fewer)) in
+    let st : Calls = counted (a .args .t1) (a .args .clock) in
+    let h = ready (a .args .t1) t (a .pre .0) (a .pre .1) (a .args .clock) in
     let k = c .before .before .before .before .before .before .before .before .before .before .before .before .before .before .find-call .result in
     let near = c .before .before .before .before .before .before .before .before .before .before .before .before .before .before .find-call .ensures in
     let some : 0 < k = omega (arith, c .before .before .before .before .before .before .before .before .before .before .before .before .before .if1 .left) in
@@ -231,8 +218,8 @@ add-ticks c = let a = c .before .before .before .before .before .before .before 
 mul-ticks-2 : tie.Need-mul-ticks-2
 mul-ticks-2 c = let a = c .before .before .before .before .before .before .before .before .before .before .before .before .before .before .before .before .before .before .before in
     let t : List ℕ = a .args .table .now in
-    let st : Calls = passed (a .args .t1) (a .args .clock) (a .args .t1 .buffers) in
-    let h = sound-passed (a .args .t1) t (a .pre .0) (a .pre .1) 300 (a .args .clock) (a .args .t1 .buffers) (omega arith) (omega (arith, a .pre .0 .fewer)) in
+    let st : Calls = counted (a .args .t1) (a .args .clock) in
+    let h = ready (a .args .t1) t (a .pre .0) (a .pre .1) (a .args .clock) in
     let k = c .before .before .before .before .before .before .before .before .before .before .before .before .before .before .find-call .result in
     let near = c .before .before .before .before .before .before .before .before .before .before .before .before .before .before .find-call .ensures in
     let some : 0 < k = omega (arith, c .before .before .before .before .before .before .before .before .before .before .before .before .before .if1 .left) in
@@ -249,8 +236,8 @@ mul-ticks-2 c = let a = c .before .before .before .before .before .before .befor
 slice-read-ticks : tie.Need-slice-read-ticks
 slice-read-ticks c = let a = c .before .before .before .before .before .before .before .before .before .before .before .before .before .before .before .before .before .before .before .before in
     let t : List ℕ = a .args .table .now in
-    let st : Calls = passed (a .args .t1) (a .args .clock) (a .args .t1 .buffers) in
-    let h = sound-passed (a .args .t1) t (a .pre .0) (a .pre .1) 300 (a .args .clock) (a .args .t1 .buffers) (omega arith) (omega (arith, a .pre .0 .fewer)) in
+    let st : Calls = counted (a .args .t1) (a .args .clock) in
+    let h = ready (a .args .t1) t (a .pre .0) (a .pre .1) (a .args .clock) in
     let k = c .before .before .before .before .before .before .before .before .before .before .before .before .before .before .before .find-call .result in
     let near = c .before .before .before .before .before .before .before .before .before .before .before .before .before .before .before .find-call .ensures in
     let some : 0 < k = omega (arith, c .before .before .before .before .before .before .before .before .before .before .before .before .before .before .if1 .left) in
@@ -267,8 +254,8 @@ slice-read-ticks c = let a = c .before .before .before .before .before .before .
 sub-if3 : tie.Need-sub-if3
 sub-if3 c = let a = c .before .before .before .before .before .before .before .before .before .before .before .before .before .before .before .before .before .before .before .before in
     let t : List ℕ = a .args .table .now in
-    let st : Calls = passed (a .args .t1) (a .args .clock) (a .args .t1 .buffers) in
-    let h = sound-passed (a .args .t1) t (a .pre .0) (a .pre .1) 300 (a .args .clock) (a .args .t1 .buffers) (omega arith) (omega (arith, a .pre .0 .fewer)) in
+    let st : Calls = counted (a .args .t1) (a .args .clock) in
+    let h = ready (a .args .t1) t (a .pre .0) (a .pre .1) (a .args .clock) in
     let k = c .before .before .before .before .before .before .before .before .before .before .before .before .before .before .before .find-call .result in
     let near = c .before .before .before .before .before .before .before .before .before .before .before .before .before .before .before .find-call .ensures in
     let some : 0 < k = omega (arith, c .before .before .before .before .before .before .before .before .before .before .before .before .before .before .if1 .left) in
@@ -286,10 +273,11 @@ same-length-3 : tie.Need-same-length-3
 same-length-3 c = search needs
 
 returns-3 : tie.Need-returns-3
+unfolding viewed
 returns-3 c = let a = c .before .before .before .before .before .before .before .before .before .before .before .before .before .before .before .before .before .before .before .before .before in
     let t : List ℕ = a .args .table .now in
-    let st : Calls = passed (a .args .t1) (a .args .clock) (a .args .t1 .buffers) in
-    let h = sound-passed (a .args .t1) t (a .pre .0) (a .pre .1) 300 (a .args .clock) (a .args .t1 .buffers) (omega arith) (omega (arith, a .pre .0 .fewer)) in
+    let st : Calls = counted (a .args .t1) (a .args .clock) in
+    let h = ready (a .args .t1) t (a .pre .0) (a .pre .1) (a .args .clock) in
     let k = c .before .before .before .before .before .before .before .before .before .before .before .before .before .before .before .before .find-call .result in
     let near = c .before .before .before .before .before .before .before .before .before .before .before .before .before .before .before .before .find-call .ensures in
     let some : 0 < k = omega (arith, c .before .before .before .before .before .before .before .before .before .before .before .before .before .before .before .if1 .left) in
@@ -304,16 +292,14 @@ returns-3 c = let a = c .before .before .before .before .before .before .before 
     let e₅ : getD u₂ (r * width + 5) 0 ≡ getD (set u₁ (r * width + 2) (getD u₁ (r * width + 2) 0 + 1)) (r * width + 5) 0 = ap (λ (x : List ℕ). getD x (r * width + 5) 0) e₂ in
     let entry : ℕ = getD (st .since) (k - 1) 0 in
     let ticks : ℕ = getD u₂ (r * width + 5) 0 in
-    let over : 2 ^ 64 ≤ ticks + (st .clock - entry) = omega (arith, c .if3 .taken, c .before .slice-known5 .given (r * width + 5)) in (
-      is-stopped _ _ 13 refl (omega arith) ∙ leave-over st t (a .args .id) k h near some u₁ gone len (c .before .before .if2 .left) (subst (λ (x : ℕ). 2 ^ 64 ≤ x + (st .clock - entry)) e₅ over),
-      next-refused st t _ u₂ 13 refl (omega arith) refl refl (ap (λ (x : List ℕ). drop written x) e₂ ∙ kept-shut st t (a .args .id) k h near some u₁ gone len),
-    )
+    let over : 2 ^ 64 ≤ ticks + (st .clock - entry) = omega (arith, c .if3 .taken, c .before .slice-known5 .given (r * width + 5)) in
+    record { outcome = leave-over st t (a .args .id) k h near some u₁ gone len (c .before .before .if2 .left) (subst (λ (x : ℕ). 2 ^ 64 ≤ x + (st .clock - entry)) e₅ over); quiet = refl; holds = tt; kept = ap (λ (x : List ℕ). drop written x) e₂ ∙ kept-shut st t (a .args .id) k h near some u₁ gone len }
 
 add-table : tie.Need-add-table
 add-table c = let a = c .before .before .before .before .before .before .before .before .before .before .before .before .before .before .before .before .before .before .before .before .before in
     let t : List ℕ = a .args .table .now in
-    let st : Calls = passed (a .args .t1) (a .args .clock) (a .args .t1 .buffers) in
-    let h = sound-passed (a .args .t1) t (a .pre .0) (a .pre .1) 300 (a .args .clock) (a .args .t1 .buffers) (omega arith) (omega (arith, a .pre .0 .fewer)) in
+    let st : Calls = counted (a .args .t1) (a .args .clock) in
+    let h = ready (a .args .t1) t (a .pre .0) (a .pre .1) (a .args .clock) in
     let k = c .before .before .before .before .before .before .before .before .before .before .before .before .before .before .before .before .find-call .result in
     let near = c .before .before .before .before .before .before .before .before .before .before .before .before .before .before .before .before .find-call .ensures in
     let some : 0 < k = omega (arith, c .before .before .before .before .before .before .before .before .before .before .before .before .before .before .before .if1 .left) in
@@ -330,8 +316,8 @@ add-table c = let a = c .before .before .before .before .before .before .before 
 mul-table : tie.Need-mul-table
 mul-table c = let a = c .before .before .before .before .before .before .before .before .before .before .before .before .before .before .before .before .before .before .before .before .before in
     let t : List ℕ = a .args .table .now in
-    let st : Calls = passed (a .args .t1) (a .args .clock) (a .args .t1 .buffers) in
-    let h = sound-passed (a .args .t1) t (a .pre .0) (a .pre .1) 300 (a .args .clock) (a .args .t1 .buffers) (omega arith) (omega (arith, a .pre .0 .fewer)) in
+    let st : Calls = counted (a .args .t1) (a .args .clock) in
+    let h = ready (a .args .t1) t (a .pre .0) (a .pre .1) (a .args .clock) in
     let k = c .before .before .before .before .before .before .before .before .before .before .before .before .before .before .before .before .find-call .result in
     let near = c .before .before .before .before .before .before .before .before .before .before .before .before .before .before .before .before .find-call .ensures in
     let some : 0 < k = omega (arith, c .before .before .before .before .before .before .before .before .before .before .before .before .before .before .before .if1 .left) in
@@ -348,8 +334,8 @@ mul-table c = let a = c .before .before .before .before .before .before .before 
 add-table-2 : tie.Need-add-table-2
 add-table-2 c = let a = c .before .before .before .before .before .before .before .before .before .before .before .before .before .before .before .before .before .before .before .before .before in
     let t : List ℕ = a .args .table .now in
-    let st : Calls = passed (a .args .t1) (a .args .clock) (a .args .t1 .buffers) in
-    let h = sound-passed (a .args .t1) t (a .pre .0) (a .pre .1) 300 (a .args .clock) (a .args .t1 .buffers) (omega arith) (omega (arith, a .pre .0 .fewer)) in
+    let st : Calls = counted (a .args .t1) (a .args .clock) in
+    let h = ready (a .args .t1) t (a .pre .0) (a .pre .1) (a .args .clock) in
     let k = c .before .before .before .before .before .before .before .before .before .before .before .before .before .before .before .before .find-call .result in
     let near = c .before .before .before .before .before .before .before .before .before .before .before .before .before .before .before .before .find-call .ensures in
     let some : 0 < k = omega (arith, c .before .before .before .before .before .before .before .before .before .before .before .before .before .before .before .if1 .left) in
@@ -366,8 +352,8 @@ add-table-2 c = let a = c .before .before .before .before .before .before .befor
 mul-table-2 : tie.Need-mul-table-2
 mul-table-2 c = let a = c .before .before .before .before .before .before .before .before .before .before .before .before .before .before .before .before .before .before .before .before .before in
     let t : List ℕ = a .args .table .now in
-    let st : Calls = passed (a .args .t1) (a .args .clock) (a .args .t1 .buffers) in
-    let h = sound-passed (a .args .t1) t (a .pre .0) (a .pre .1) 300 (a .args .clock) (a .args .t1 .buffers) (omega arith) (omega (arith, a .pre .0 .fewer)) in
+    let st : Calls = counted (a .args .t1) (a .args .clock) in
+    let h = ready (a .args .t1) t (a .pre .0) (a .pre .1) (a .args .clock) in
     let k = c .before .before .before .before .before .before .before .before .before .before .before .before .before .before .before .before .find-call .result in
     let near = c .before .before .before .before .before .before .before .before .before .before .before .before .before .before .before .before .find-call .ensures in
     let some : 0 < k = omega (arith, c .before .before .before .before .before .before .before .before .before .before .before .before .before .before .before .if1 .left) in
@@ -384,8 +370,8 @@ mul-table-2 c = let a = c .before .before .before .before .before .before .befor
 slice-write-table : tie.Need-slice-write-table
 slice-write-table c = let a = c .before .before .before .before .before .before .before .before .before .before .before .before .before .before .before .before .before .before .before .before .before in
     let t : List ℕ = a .args .table .now in
-    let st : Calls = passed (a .args .t1) (a .args .clock) (a .args .t1 .buffers) in
-    let h = sound-passed (a .args .t1) t (a .pre .0) (a .pre .1) 300 (a .args .clock) (a .args .t1 .buffers) (omega arith) (omega (arith, a .pre .0 .fewer)) in
+    let st : Calls = counted (a .args .t1) (a .args .clock) in
+    let h = ready (a .args .t1) t (a .pre .0) (a .pre .1) (a .args .clock) in
     let k = c .before .before .before .before .before .before .before .before .before .before .before .before .before .before .before .before .find-call .result in
     let near = c .before .before .before .before .before .before .before .before .before .before .before .before .before .before .before .before .find-call .ensures in
     let some : 0 < k = omega (arith, c .before .before .before .before .before .before .before .before .before .before .before .before .before .before .before .if1 .left) in
@@ -402,8 +388,8 @@ slice-write-table c = let a = c .before .before .before .before .before .before 
 same-length-4 : tie.Need-same-length-4
 same-length-4 c = let a = c .before .before .before .before .before .before .before .before .before .before .before .before .before .before .before .before .before .before .before .before .before in
     let t : List ℕ = a .args .table .now in
-    let st : Calls = passed (a .args .t1) (a .args .clock) (a .args .t1 .buffers) in
-    let h = sound-passed (a .args .t1) t (a .pre .0) (a .pre .1) 300 (a .args .clock) (a .args .t1 .buffers) (omega arith) (omega (arith, a .pre .0 .fewer)) in
+    let st : Calls = counted (a .args .t1) (a .args .clock) in
+    let h = ready (a .args .t1) t (a .pre .0) (a .pre .1) (a .args .clock) in
     let k = c .before .before .before .before .before .before .before .before .before .before .before .before .before .before .before .before .find-call .result in
     let near = c .before .before .before .before .before .before .before .before .before .before .before .before .before .before .before .before .find-call .ensures in
     let some : 0 < k = omega (arith, c .before .before .before .before .before .before .before .before .before .before .before .before .before .before .before .if1 .left) in
@@ -418,10 +404,11 @@ same-length-4 c = let a = c .before .before .before .before .before .before .bef
     length-set u₂ (r * width + 5) _ ∙ len₂
 
 returns-4 : tie.Need-returns-4
+unfolding viewed
 returns-4 c = let a = c .before .before .before .before .before .before .before .before .before .before .before .before .before .before .before .before .before .before .before .before .before in
     let t : List ℕ = a .args .table .now in
-    let st : Calls = passed (a .args .t1) (a .args .clock) (a .args .t1 .buffers) in
-    let h = sound-passed (a .args .t1) t (a .pre .0) (a .pre .1) 300 (a .args .clock) (a .args .t1 .buffers) (omega arith) (omega (arith, a .pre .0 .fewer)) in
+    let st : Calls = counted (a .args .t1) (a .args .clock) in
+    let h = ready (a .args .t1) t (a .pre .0) (a .pre .1) (a .args .clock) in
     let k = c .before .before .before .before .before .before .before .before .before .before .before .before .before .before .before .before .find-call .result in
     let near = c .before .before .before .before .before .before .before .before .before .before .before .before .before .before .before .before .find-call .ensures in
     let some : 0 < k = omega (arith, c .before .before .before .before .before .before .before .before .before .before .before .before .before .before .before .if1 .left) in
@@ -439,13 +426,13 @@ returns-4 c = let a = c .before .before .before .before .before .before .before 
     let fits : ticks + (st .clock - entry) < 2 ^ 64 = omega (arith, c .if3 .left, c .before .slice-known5 .given (r * width + 5)) in
     let fits' = subst (λ (x : ℕ). x + (st .clock - entry) < 2 ^ 64) e₅ fits in
     let e = ap (λ (x : List ℕ). set x (r * width + 5) (getD x (r * width + 5) 0 + (st .clock - entry))) e₂ in
-    (leave-measured st t (a .args .id) k h near some u₁ gone len _ (c .before .before .if2 .left) fits' e, next-measured st t (a .args .id) k h near some u₁ gone len _ (c .before .before .if2 .left) fits' e)
+    let n = next-measured st t (a .args .id) k h near some u₁ gone len _ (c .before .before .if2 .left) fits' e in
+    record { outcome = leave-measured st t (a .args .id) k h near some u₁ gone len _ (c .before .before .if2 .left) fits' e; quiet = refl; holds = n .0; kept = n .1 }
 
 pub leave-spec : {M : Type 1} → statement M
 leave-spec =
     tie.close
     (tie.spec
-    add-self
     find-call-requires
     same-length
     returns
