@@ -162,19 +162,19 @@ impl Calls {
         }
         abandon(&self.row, depth, k, table);
         let j = k - 1;
-        let r = self.row[j] as usize;
+        let row = self.row[j] as usize * WIDTH;
         let since = self.since[j];
-        bump(table, r * WIDTH + CLOSED);
+        bump(table, row + CLOSED);
         if clock < since {
-            bump(table, r * WIDTH + BACKWARD);
+            bump(table, row + BACKWARD);
             return Act::Pop { depth: j, clock };
         }
-        let ticks = table[r * WIDTH + TICKS];
+        let ticks = table[row + TICKS];
         let more = clock - since;
         if LARGEST - ticks < more {
             return Act::Refuse(Refusal::Ticks);
         }
-        table[r * WIDTH + TICKS] = ticks + more;
+        table[row + TICKS] = ticks + more;
         Act::Pop { depth: j, clock }
     }
 
