@@ -10,3 +10,4 @@ pub mod Agreement
 pub mod Visible
 pub mod Bounds
 pub mod Fields
+pub mod Overwriting

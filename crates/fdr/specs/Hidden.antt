@@ -1,8 +1,11 @@
 -- Hidden bytes (paper 01, "Bytes of a log"; the paper's own term). Assumes nothing.
 use Prim.Native.Nat.{ℕ, _+_}
+use mathlib.Core.Path.{_≡_}
 use mathlib.Core.Bool.{Bool, false, _&&_, _||_}
 use mathlib.Core.List.{List}
 use lib.Dec.{leb, ltb}
+use lib.ListN.{length}
+use Rattle.fdr.specs.Number.{byteAt}
 use Rattle.fdr.specs.Record.{visible}
 use Rattle.fdr.specs.declared.record.Record.{Record}
 use Rattle.fdr.specs.declared.record.Record.the-variants.{Function, NewBuffer, EndOfBuffer, NewCpuId, TscWrap, WallTime, CustomEvent, CallArgument}
@@ -33,3 +36,15 @@ shown (WallTime seconds micros) = WallTime seconds micros
 shown (CustomEvent size tsc) = CustomEvent size tsc
 shown (CallArgument argument) = CallArgument 0
 shown (Function action id delta) = Function action id delta
+
+-- A trace without what is hidden in its records.
+unfoldable pub shownIn : Trace → Trace
+shownIn (item place r after rest) = item place (shown r) after (shownIn rest)
+shownIn done = done
+shownIn (refusedAt n place) = refusedAt n place
+
+-- An overwriting of a log's hidden bytes: "The new log has the old one's length, and its byte at every place that
+-- isn't hidden."
+pub record Overwritten (s t : List ℕ) : Type 0 where
+  pub long : length s ≡ length t
+  pub kept : (i : ℕ) → hidden s i ≡ false → byteAt s i ≡ byteAt t i

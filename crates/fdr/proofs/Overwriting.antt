@@ -1,0 +1,213 @@
+-- Overwriting the hidden bytes of a log, well-formed or not, leaves its trace as it was, but for the values of
+-- arguments. Assumes nothing.
+use Prim.Native.Nat.{ℕ, zero, suc, _+_, _<_, _≤_}
+use mathlib.Core.Path.{_≡_, refl, sym, ap, _∙_, subst}
+use mathlib.Core.Bool.{Bool, true, false, _&&_, _||_}
+use mathlib.Core.List.{List}
+use native.Mathlib.Omega.{arith}
+use borrow.Author.Tests.{le-ltb, lt-leb, lt-ltb}
+use lib.Dec.{leb, ltb}
+use lib.ListN.{length}
+use Rattle.fdr.specs.Number.{byteAt, number}
+use Rattle.fdr.specs.Record.{sizeOf, visible, eventSize}
+use Rattle.fdr.specs.Decoded.{known, decoded}
+use Rattle.fdr.specs.Header.{Opening, passed, failed, headerOf, headerTests, openedWithin, longest}
+use Rattle.fdr.specs.Reading.{Reading, found, refused, recordAt}
+use Rattle.fdr.specs.Grammar.{follows}
+use Rattle.fdr.specs.Walk.{Stepping, over, went, stopped, inFront, grammarTest, recordTest, stepIn, next, startOf}
+use Rattle.fdr.specs.Trace.{Trace, item, done, refusedAt, traced, walked, traceFrom, traceWithin, trace}
+use Rattle.fdr.specs.Hidden.{within, hiddenIn, hidden, shown, shownIn, Overwritten}
+use Rattle.fdr.specs.declared.record.Record.{Record}
+use Rattle.fdr.specs.declared.record.Record.the-variants.{Function, NewBuffer, EndOfBuffer, NewCpuId, TscWrap, WallTime, CustomEvent, CallArgument}
+use Rattle.fdr.specs.declared.grammar.Stage.{Stage}
+use Rattle.fdr.specs.declared.grammar.Stage.the-variants.{Between, WallTimeNext, CpuNext, Body, Arguments}
+use Rattle.fdr.specs.declared.walk.Position.{Position}
+use Rattle.fdr.proofs.Cases.{clash}
+use Rattle.fdr.proofs.Numbers.{Agree, number-agree}
+use Rattle.fdr.proofs.Records.{visible-size}
+use Rattle.fdr.proofs.Decoding.{Placed, placed, found-at}
+use Rattle.fdr.proofs.Walking.{step-found, in-front, in-buffer}
+use Rattle.fdr.proofs.Tracing.{Forward, forward, gone-in, trace-passed}
+use Rattle.fdr.proofs.Agreement.{SameFrom, next-agree}
+use Rattle.fdr.proofs.Visible.{Like, decoded-visible}
+
+-- A step without what is hidden in its record.
+abbrev shownStep : Stepping → Stepping
+shownStep over = over
+shownStep (went r q) = went (shown r) q
+shownStep (stopped n at) = stopped n at
+
+shown-size : (r : Record) → sizeOf (shown r) ≡ sizeOf r
+unfolding shown
+shown-size (NewBuffer t) = refl
+shown-size EndOfBuffer = refl
+shown-size (NewCpuId c t) = refl
+shown-size (TscWrap t) = refl
+shown-size (WallTime s m) = refl
+shown-size (CustomEvent n t) = refl
+shown-size (CallArgument v) = refl
+shown-size (Function a f d) = refl
+
+-- The grammar, the event and the thread are tested alike.
+module _ (p : Position) (e n : ℕ) where
+  abbrev tested : Record → Stepping
+  tested r = shownStep (grammarTest (follows (p .stage) r) p e r n)
+
+  argument-tested : (v : ℕ) → tested (CallArgument v) ≡ tested (CallArgument 0)
+  unfolding shown
+  argument-tested v = go (p .stage)
+    where
+      fits : (b : Bool) → shownStep (elim b [ true ↦ went (CallArgument v) (record { place = n + 0; end = e; size = p .size; stage = Arguments; threads = p .threads }) | false ↦ stopped 5 (p .place) ]) ≡ shownStep (elim b [ true ↦ went (CallArgument 0) (record { place = n + 0; end = e; size = p .size; stage = Arguments; threads = p .threads }) | false ↦ stopped 5 (p .place) ])
+      fits true = refl
+      fits false = refl
+
+      go : (stage : Stage) → shownStep (grammarTest (follows stage (CallArgument v)) p e (CallArgument v) n) ≡ shownStep (grammarTest (follows stage (CallArgument 0)) p e (CallArgument 0) n)
+      go Between = refl
+      go WallTimeNext = refl
+      go CpuNext = refl
+      go Body = refl
+      go Arguments = fits (leb (n + 0) e)
+
+  shown-tested : (r : Record) → tested r ≡ tested (shown r)
+  unfolding shown
+  shown-tested (NewBuffer t) = refl
+  shown-tested EndOfBuffer = refl
+  shown-tested (NewCpuId c t) = refl
+  shown-tested (TscWrap t) = refl
+  shown-tested (WallTime s m) = refl
+  shown-tested (CustomEvent n t) = refl
+  shown-tested (CallArgument v) = argument-tested v
+  shown-tested (Function a f d) = refl
+
+-- A step that finds a record depends only on the visible bytes of it, but for an argument's value.
+module _ (s t : List ℕ) (p : Position) (r : Record) (q : Position) (long : length s ≡ length t) (same : Agree s t (p .place) (p .place + visible r)) where
+  alike : (e n : ℕ) → Placed s e (p .place) r n → Like r (decoded t (p .place)) → tested p e n r ≡ shownStep (stepIn t p e)
+  alike e n at like =
+      let size : sizeOf r ≡ sizeOf (like .other) = sym (shown-size r) ∙ ap sizeOf (like .same) ∙ shown-size (like .other) in
+      let there : recordAt t e (p .place) ≡ found (like .other) n = found-at t e (p .place) (like .other) n (record { is = like .is; starts = at .starts; behind = omega (arith, at .behind); within = at .within; inLog = omega (arith, at .inLog) }) in
+      shown-tested p e n r ∙ ap (tested p e n) (like .same) ∙ sym (shown-tested p e n (like .other)) ∙ ap shownStep (sym (step-found t p e (like .other) n there))
+
+  same-in : (e : ℕ) → stepIn s p e ≡ went r q → shownStep (stepIn s p e) ≡ shownStep (stepIn t p e)
+  unfolding stepIn
+  same-in e z = go (recordAt s e (p .place)) refl z
+    where
+      go : (x : Reading) → recordAt s e (p .place) ≡ x → recordTest x p e ≡ went r q → shownStep (recordTest x p e) ≡ shownStep (stepIn t p e)
+      go (refused m l) d w = clash (cc)
+      go (found x n) d w =
+          let at : Placed s e (p .place) x n = placed s e (p .place) x n d in
+          let is : decoded s (p .place) ≡ known x = at .is in
+          let here : decoded s (p .place) ≡ known r = gone-in s p e r q z .placed .is in
+          let one : r ≡ x = cc in
+          ap (tested p e n) (sym one) ∙ alike e n (subst (λ (y : Record). Placed s e (p .place) y n) (sym one) at) (decoded-visible s t (p .place) r here same)
+
+  same-next : next s p ≡ went r q → shownStep (next s p) ≡ shownStep (next t p)
+  unfolding next
+  same-next z = go (inFront (p .stage)) z
+    where
+      front : (b : Bool) → elim b [ true ↦ stepIn s p (p .place + p .size) | false ↦ over ] ≡ went r q → shownStep (elim b [ true ↦ stepIn s p (p .place + p .size) | false ↦ over ]) ≡ shownStep (elim b [ true ↦ stepIn t p (p .place + p .size) | false ↦ over ])
+      front true w = same-in (p .place + p .size) w
+      front false w = refl
+
+      go : (b : Bool) → elim b [ true ↦ elim (ltb (p .place) (length s)) [ true ↦ stepIn s p (p .place + p .size) | false ↦ over ] | false ↦ stepIn s p (p .end) ] ≡ went r q → shownStep (elim b [ true ↦ elim (ltb (p .place) (length s)) [ true ↦ stepIn s p (p .place + p .size) | false ↦ over ] | false ↦ stepIn s p (p .end) ]) ≡ shownStep (elim b [ true ↦ elim (ltb (p .place) (length t)) [ true ↦ stepIn t p (p .place + p .size) | false ↦ over ] | false ↦ stepIn t p (p .end) ])
+      go true w = front (ltb (p .place) (length s)) w ∙ ap (λ (n : ℕ). shownStep (elim (ltb (p .place) n) [ true ↦ stepIn t p (p .place + p .size) | false ↦ over ])) long
+      go false w = same-in (p .end) w
+
+-- What is hidden lies behind the place where a trace starts.
+hidden-later : (f : ℕ) (s : List ℕ) (p : Position) (i : ℕ) → i < p .place → hiddenIn (walked f s p) i ≡ false
+unfolding walked hiddenIn
+hidden-later zero s p i l = refl
+hidden-later (suc f) s p i l = go (next s p) refl (λ r q w. hidden-later f s q i (omega (arith, w .by)))
+  where
+    go : (x : Stepping) → next s p ≡ x → ((r : Record) (q : Position) → Forward s p r q → hiddenIn (walked f s q) i ≡ false) → hiddenIn (traced x (p .place) (λ q. walked f s q)) i ≡ false
+    go over z h = refl
+    go (stopped n at) z h = refl
+    go (went r q) z h = rw (lt-leb (p .place + visible r) i (omega arith), h r q (forward s p r q z))
+
+-- Nothing is hidden before a range, nor behind it.
+pub before-range : (from to i : ℕ) → i < from → within from to i ≡ false
+before-range from to i l = rw (lt-leb from i l)
+
+pub behind-range : (from to i : ℕ) → to ≤ i → within from to i ≡ false
+behind-range from to i l = go (leb from i)
+  where
+    go : (b : Bool) → (b && ltb i to) ≡ false
+    go true = le-ltb i to l
+    go false = refl
+
+-- A trace without what is hidden is the same in both logs.
+module _ (s t : List ℕ) (long : length s ≡ length t) where
+  abbrev Same : ℕ → Trace → Type 0
+  Same from rest = (i : ℕ) → from ≤ i → hiddenIn rest i ≡ false → byteAt s i ≡ byteAt t i
+
+  shown-traced : (x : Stepping) (place : ℕ) (F : Position → Trace) → shownIn (traced x place F) ≡ traced (shownStep x) place (λ q. shownIn (F q))
+  unfolding shownIn
+  shown-traced over place F = refl
+  shown-traced (went r q) place F = refl
+  shown-traced (stopped n at) place F = refl
+
+  walked-shown : (f : ℕ) (p : Position) → Same (p .place) (walked f s p) → shownIn (walked f s p) ≡ shownIn (walked f t p)
+  unfolding walked shownIn hiddenIn
+  walked-shown zero p same = refl
+  walked-shown (suc f) p same = go (next s p) refl same (λ q h. walked-shown f q h)
+    where
+      rest : Position → Trace
+      rest q = walked f t q
+
+      ends : (x : Stepping) → next s p ≡ x → ((i : ℕ) → p .place ≤ i → byteAt s i ≡ byteAt t i) → shownIn (traced x (p .place) rest) ≡ shownIn (traced (next t p) (p .place) rest)
+      ends x z h = ap (λ (y : Stepping). shownIn (traced y (p .place) rest)) (sym z ∙ next-agree s t p (record { long = long; bytes = h }))
+
+      went-on : (r : Record) (q : Position) → next s p ≡ went r q → Same (p .place) (item (p .place) r (q .place) (walked f s q)) → Forward s p r q → shownIn (walked f s q) ≡ shownIn (walked f t q) → shownIn (item (p .place) r (q .place) (walked f s q)) ≡ shownIn (traced (next t p) (p .place) rest)
+      went-on r q z h w ih =
+          let seen : Agree s t (p .place) (p .place + visible r) =
+          λ i a b. h i a (rw (before-range (p .place + visible r) (q .place) i b) (hidden-later f s q i (omega (arith, w .by, visible-size r)))) in
+          ap (item (p .place) (shown r) (q .place)) ih
+          ∙ ap (λ (y : Stepping). traced (shownStep y) (p .place) (λ k. shownIn (rest k))) (sym z)
+          ∙ ap (λ (y : Stepping). traced y (p .place) (λ k. shownIn (rest k))) (same-next s t p r q long seen z)
+          ∙ sym (shown-traced (next t p) (p .place) rest)
+
+      go : (x : Stepping) → next s p ≡ x → Same (p .place) (traced x (p .place) (λ q. walked f s q)) → ((q : Position) → Same (q .place) (walked f s q) → shownIn (walked f s q) ≡ shownIn (walked f t q)) → shownIn (traced x (p .place) (λ q. walked f s q)) ≡ shownIn (traced (next t p) (p .place) rest)
+      go over z h more = ends over z (λ i l. h i l refl)
+      go (stopped n at) z h more = ends (stopped n at) z (λ i l. h i l refl)
+      go (went r q) z h more =
+          let w : Forward s p r q = forward s p r q z in
+          went-on r q z h w (more q (λ i l none. h i (omega (arith, w .by)) (rw (behind-range (p .place + visible r) (q .place) i l) none)))
+
+  trace-shown : (p : Position) → Same (p .place) (traceFrom s p) → shownIn (traceFrom s p) ≡ shownIn (traceFrom t p)
+  unfolding traceFrom
+  trace-shown p same = walked-shown (suc (length s)) p same ∙ ap (λ (n : ℕ). shownIn (walked (suc n) t p)) long
+
+-- The header's tests look at its first 24 bytes and at the log's length.
+opened-agree : (limit : ℕ) (s t : List ℕ) → length s ≡ length t → Agree s t 0 24 → openedWithin limit s ≡ openedWithin limit t
+unfolding headerOf headerTests openedWithin
+opened-agree limit s t long same =
+    let a : number 2 s 0 ≡ number 2 t 0 = part 2 0 (omega arith) in
+    let b : number 2 s 2 ≡ number 2 t 2 = part 2 2 (omega arith) in
+    let c : number 4 s 4 ≡ number 4 t 4 = part 4 4 (omega arith) in
+    let d : number 8 s 8 ≡ number 8 t 8 = part 8 8 (omega arith) in
+    let e : number 8 s 16 ≡ number 8 t 16 = part 8 16 (omega arith) in
+    rw (long, a, b, c, d, e)
+  where
+    part : (k at : ℕ) → at + k ≤ 24 → number k s at ≡ number k t at
+    part k at fits = number-agree k s t at (λ i l h. same i (omega arith) (omega arith))
+
+pub header-first : (s : List ℕ) (i : ℕ) → i < 32 → hiddenIn (trace s) i ≡ false
+unfolding traceWithin traceFrom hiddenIn
+header-first s i l = go (openedWithin longest s)
+  where
+    go : (x : Opening) → hiddenIn (elim x [ passed h ↦ traceFrom s (startOf h) | failed n ↦ refusedAt n 0 ]) i ≡ false
+    go (passed h) = hidden-later (suc (length s)) s (startOf h) i l
+    go (failed n) = refl
+
+-- THE LAW OF OVERWRITING: the trace of the new log is the old one's, but for the values of arguments.
+pub overwritten : (s t : List ℕ) → Overwritten s t → shownIn (trace s) ≡ shownIn (trace t)
+unfolding traceWithin hidden
+overwritten s t o =
+    go (openedWithin longest s) refl
+    ∙ ap (λ (x : Opening). shownIn (elim x [ passed h ↦ traceFrom t (startOf h) | failed n ↦ refusedAt n 0 ]))
+    (opened-agree longest s t (o .long) (λ i a b. o .kept i (rw (before-range 24 32 i b) (header-first s i (omega arith)))))
+  where
+    go : (x : Opening) → openedWithin longest s ≡ x → shownIn (elim x [ passed h ↦ traceFrom s (startOf h) | failed n ↦ refusedAt n 0 ]) ≡ shownIn (elim x [ passed h ↦ traceFrom t (startOf h) | failed n ↦ refusedAt n 0 ])
+    go (failed n) z = refl
+    go (passed h) z =
+        trace-shown s t (o .long) (startOf h)
+        (λ i l none. o .kept i (rw (behind-range 24 32 i l) (ap (λ (x : Trace). hiddenIn x i) (trace-passed longest s h z) ∙ none)))
