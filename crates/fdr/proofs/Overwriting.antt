@@ -5,7 +5,7 @@ use mathlib.Core.Path.{_≡_, refl, sym, ap, _∙_, subst}
 use mathlib.Core.Bool.{Bool, true, false, _&&_, _||_}
 use mathlib.Core.List.{List}
 use native.Mathlib.Omega.{arith}
-use borrow.Author.Tests.{le-ltb, lt-leb, lt-ltb}
+use borrow.Author.Tests.{le-ltb, lt-ltb, le-leb, lt-leb}
 use lib.Dec.{leb, ltb}
 use lib.ListN.{length}
 use Rattle.fdr.specs.Number.{byteAt, number}
@@ -123,9 +123,12 @@ hidden-later (suc f) s p i l = go (next s p) refl (λ r q w. hidden-later f s q 
     go (stopped n at) z h = refl
     go (went r q) z h = rw (lt-leb (p .place + visible r) i (omega arith), h r q (forward s p r q z))
 
--- Nothing is hidden before a range, nor behind it.
+-- Before a range, in it, and behind it.
 pub before-range : (from to i : ℕ) → i < from → within from to i ≡ false
 before-range from to i l = rw (lt-leb from i l)
+
+pub in-range : (from to i : ℕ) → from ≤ i → i < to → within from to i ≡ true
+in-range from to i l h = rw (le-leb from i l, lt-ltb i to h)
 
 pub behind-range : (from to i : ℕ) → to ≤ i → within from to i ≡ false
 behind-range from to i l = go (leb from i)

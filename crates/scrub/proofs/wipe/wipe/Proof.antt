@@ -1,0 +1,83 @@
+-- `scrub::wipe::wipe` meets its contract: the rest wiped is the whole wiped. Assumes nothing.
+use Rattle.scrub.specs.Scrub.{zeroed}
+use Rattle.scrub.proofs.Scrubbing.{nothing-left, wiped, visible-before}
+use Rattle.fdr.proofs.Tracing.{forward}
+use Rattle.fdr.proofs.Records.{sized-some}
+use Rattle.fdr.specs.Hidden.{hiddenIn}
+use Rattle.fdr.specs.Trace.{traceFrom}
+use Rattle.fdr.specs.Walk.{steppingOf}
+use borrow.Author.Needs.{needs}
+use lib.ListN.{length}
+use Prim.Native.Nat.{_-_}
+use native.Mathlib.Omega.{arith}
+use mathlib.Core.Path.{_≡_, refl, sym, ap, _∙_}
+use Rattle.scrub.proofs.wipe.wipe.Statement.{statement}
+use Rattle.scrub.proofs.wipe.wipe.Tie as tie
+
+abbrev Inv-loop : tie.InvT-loop
+Inv-loop log₀ at₀ log at = (zeroed (hiddenIn (traceFrom log at)) log ≡ zeroed (hiddenIn (traceFrom log₀ at₀)) log₀) × (length log ≡ length log₀)
+
+abbrev μ-loop : tie.MeasureT-loop
+μ-loop log₀ at₀ log at = length log - at .place
+
+loop-holds : tie.Need-loop-holds Inv-loop μ-loop
+loop-holds c = (refl, refl)
+
+next-requires : tie.Need-next-requires Inv-loop μ-loop
+next-requires c κs = search needs
+
+enum-known-step : tie.Need-enum-known-step Inv-loop μ-loop
+enum-known-step c = search needs
+
+same-length : tie.Need-same-length Inv-loop μ-loop
+same-length c = c .before .before .before .loop .inv .1
+
+returns : tie.Need-returns Inv-loop μ-loop
+returns c = nothing-left _ (c .before .before .before .loop .at) (c .before .next .result) (c .before .next .ensures) (c .match .keys2) ∙ c .before .before .before .loop .inv .0
+
+visible-size-requires : tie.Need-visible-size-requires Inv-loop μ-loop
+visible-size-requires c κs = search needs
+
+add-from : tie.Need-add-from Inv-loop μ-loop
+add-from c =
+    let l = c .before .before .before .before .before .before .before .loop in
+    let z = sym (c .before .before .before .before .before .next .ensures) ∙ ap steppingOf (c .before .before .before .step .given .1) in
+    let w = forward _ (l .at) _ _ z in
+    omega (arith, c .before .«visible-size» .ensures, visible-before _ (l .at) _ _ z, w .within, w .inLog)
+
+zero-requires : tie.Need-zero-requires Inv-loop μ-loop
+zero-requires c κs =
+    let l = c .before .before .before .before .before .before .before .before .loop in
+    let z = sym (c .before .before .before .before .before .before .next .ensures) ∙ ap steppingOf (c .before .before .before .before .step .given .1) in
+    let w = forward _ (l .at) _ _ z in
+    (omega (arith, c .before .before .«visible-size» .ensures, visible-before _ (l .at) _ _ z), omega (arith, w .within, w .inLog))
+
+loop-less : tie.Need-loop-less Inv-loop μ-loop
+loop-less c =
+    let l = c .before .before .before .before .before .before .before .before .before .before .before .loop in
+    let z = sym (c .before .before .before .before .before .before .before .before .before .next .ensures) ∙ ap steppingOf (c .before .before .before .before .before .before .before .step .given .1) in
+    let w = forward _ (l .at) _ _ z in
+    omega (arith, c .before .before .zero .kept .0, w .from, w .by, w .within, w .inLog, sized-some (c .before .before .before .before .before .before .before .step .given .0 .0))
+
+loop-again : tie.Need-loop-again Inv-loop μ-loop
+loop-again c =
+    let l = c .before .before .before .before .before .before .before .before .before .before .before .loop in
+    let z = sym (c .before .before .before .before .before .before .before .before .before .next .ensures) ∙ ap steppingOf (c .before .before .before .before .before .before .before .step .given .1) in
+    (wiped (l .log) (l .at) _ _ z _ (c .before .before .before .before .before .«visible-size» .ensures) _ (c .before .before .zero .ensures) ∙ l .inv .0, c .before .before .zero .kept .0 ∙ l .inv .1)
+
+pub wipe-spec : {M : Type 1} → statement M
+wipe-spec =
+    tie.close
+    (tie.spec
+    Inv-loop
+    μ-loop
+    loop-holds
+    next-requires
+    enum-known-step
+    same-length
+    returns
+    visible-size-requires
+    add-from
+    zero-requires
+    loop-less
+    loop-again)

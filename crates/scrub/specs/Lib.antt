@@ -1,0 +1,2 @@
+pub mod Scrub
+pub mod View

@@ -1,0 +1,40 @@
+-- The scrubber (paper 01, "Bytes of a log" and "The numbered refusals"). Assumes nothing.
+use Prim.Native.Nat.{ℕ, _+_}
+use mathlib.Core.Bool.{Bool, true, false}
+use mathlib.Core.List.{List, [], _∷_}
+use Rattle.fdr.specs.Refusal.{numberOf}
+use Rattle.fdr.specs.Trace.{Trace, item, done, refusedAt, trace, wellFormed}
+use Rattle.fdr.specs.Hidden.{hidden}
+use Rattle.scrub.specs.declared.Answer.{Answer}
+use Rattle.scrub.specs.declared.Answer.the-variants.{Scrubbed, Refused}
+
+-- Nothing to say, or a refusal's number and place.
+pub data Scrubbing : Type 0 where
+  scrubbed : Scrubbing
+  refused : ℕ → ℕ → Scrubbing
+
+-- What the answer of the code says.
+abbrev pub scrubbingOf : Answer → Scrubbing
+scrubbingOf Scrubbed = scrubbed
+scrubbingOf (Refused refusal place) = refused (numberOf refusal) place
+
+unfoldable pub ending : Trace → Scrubbing
+ending (item place r after rest) = ending rest
+ending done = scrubbed
+ending (refusedAt n place) = refused n place
+
+-- "The scrubber tests 1 to 8 only, in the replay's order"
+abbrev pub scrubbing : List ℕ → Scrubbing
+scrubbing s = ending (trace s)
+
+-- The bytes of a list that starts at a place, with zero in place of those of a set.
+unfoldable pub zeroedFrom : ℕ → (ℕ → Bool) → List ℕ → List ℕ
+zeroedFrom place set [] = []
+zeroedFrom place set (b ∷ s) = elim (set place) [ true ↦ 0 | false ↦ b ] ∷ zeroedFrom (place + 1) set s
+
+abbrev pub zeroed : (ℕ → Bool) → List ℕ → List ℕ
+zeroed set s = zeroedFrom 0 set s
+
+-- "zero in every hidden byte and the old byte elsewhere"; "and changes nothing when it refuses"
+unfoldable pub bytesAfter : List ℕ → List ℕ
+bytesAfter s = elim (wellFormed s) [ true ↦ zeroed (hidden s) s | false ↦ s ]

@@ -1,0 +1,79 @@
+// The scrubber: zero in every hidden byte of a log, in place, or one refusal with its place.
+ghost use mathlib.Core.Path.{_≡_};
+ghost use Rattle.fdr.specs.Header.{passed, openedWithin, longest};
+ghost use Rattle.fdr.specs.Trace.{traceFrom};
+ghost use Rattle.fdr.specs.Walk.{steppingOf};
+ghost use Rattle.scrub.specs.Scrub.{scrubbingOf, ending, scrubbing, bytesAfter};
+ghost use Rattle.scrub.specs.View.{endOf};
+use fdr::header::Header;
+use fdr::header::Opened;
+use fdr::record::Record;
+use fdr::refusal::Refusal;
+use fdr::walk::Position;
+use fdr::walk::Step;
+use wipe::wipe;
+use wipe::zero;
+
+mod wipe;
+
+pub enum Answer {
+    Scrubbed,
+    Refused { refusal: Refusal, place: u64 },
+}
+
+// The bytes of the header that are not hidden.
+const HEADER_VISIBLE: usize = 24;
+
+// The walk found no record: the log is over, or it is refused.
+fn ended(step: Step) -> Answer
+    ensures { λ r. ⌜ scrubbingOf r ≡ endOf (steppingOf step) ⌝ }
+{
+    let Step::Refused { refusal, place } = step else {
+        return Answer::Scrubbed;
+    };
+    Answer::Refused {
+        refusal,
+        place: place as u64,
+    }
+}
+
+// Tests 5 to 8 of all records, from a position on.
+fn check(log: &[u8], first: Position) -> Answer
+    ensures { λ r. ⌜ scrubbingOf r ≡ ending (traceFrom (now (log .entry)) first) ⌝ }
+{
+    let mut at = first;
+    loop {
+        let step = fdr::walk::next(log, at);
+        let Step::Found { record: _, next } = step else {
+            return ended(step);
+        };
+        at = next;
+    }
+}
+
+// Behind the header's tests. All records are tested before a byte is changed.
+fn scrub_records(log: &mut [u8], header: Header) -> Answer
+    requires { ⌜ openedWithin longest (now log) ≡ passed header ⌝ }
+    ensures { λ r. ⌜ scrubbingOf r ≡ scrubbing (now (log .entry)) ⌝ }
+    ensures { λ r. ⌜ now (log .exit) ≡ bytesAfter (now (log .entry)) ⌝ }
+{
+    let first = fdr::walk::start(header);
+    let checked = check(log, first);
+    if let Answer::Scrubbed = checked {
+        zero(log, HEADER_VISIBLE, Record::HEADER_SIZE);
+        wipe(log, first);
+    }
+    checked
+}
+
+// Scrubs a log in place.
+pub fn scrub(log: &mut [u8]) -> Answer
+    ensures { λ r. ⌜ scrubbingOf r ≡ scrubbing (now (log .entry)) ⌝ }
+    ensures { λ r. ⌜ now (log .exit) ≡ bytesAfter (now (log .entry)) ⌝ }
+{
+    let opened = fdr::header::open(log);
+    match opened {
+        Opened::Refused(refusal) => Answer::Refused { refusal, place: 0 },
+        Opened::Passed(header) => scrub_records(log, header),
+    }
+}
