@@ -15,7 +15,7 @@ use Rattle.fdr.specs.Header.{Opening, passed, failed, headerOf, headerTe
 use Rattle.fdr.specs.Reading.{Reading, found, refused, recordAt}
 use Rattle.fdr.specs.Grammar.{follows}
 use Rattle.fdr.specs.Walk.{Stepping, over, went, stopped, inFront, grammarTest, recordTest, stepIn, next, startOf}
-use Rattle.fdr.specs.Trace.{Trace, item, done, refusedAt, traced, walked, traceFrom, traceWithin, trace}
+use Rattle.fdr.specs.Trace.{Trace, item, done, refusedAt, traced, walked, traceFrom, traceWithin, trace, finished, wellFormed}
 use Rattle.fdr.specs.Hidden.{within, hiddenIn, hidden, shown, shownIn, Overwritten}
 use Rattle.fdr.specs.declared.record.Record.{Record}
 use Rattle.fdr.specs.declared.record.Record.the-variants.{Function, NewBuffer, EndOfBuffer, NewCpuId, TscWrap, WallTime, CustomEvent, CallArgument}
@@ -214,3 +214,37 @@ overwritten s t o =
     go (passed h) z =
         trace-shown s t (o .long) (startOf h)
         (λ i l none. o .kept i (rw (behind-range 24 32 i l) (ap (λ (x : Trace). hiddenIn x i) (trace-passed longest s h z) ∙ none)))
+
+-- What is well-formed and what is hidden is told by the trace without what is hidden.
+finished-shown : (t : Trace) → finished t ≡ finished (shownIn t)
+unfolding finished shownIn
+finished-shown (item place r after rest) = finished-shown rest
+finished-shown done = refl
+finished-shown (refusedAt n place) = refl
+
+shown-visible : (r : Record) → visible r ≡ visible (shown r)
+unfolding shown
+shown-visible (NewBuffer t) = refl
+shown-visible EndOfBuffer = refl
+shown-visible (NewCpuId c t) = refl
+shown-visible (TscWrap t) = refl
+shown-visible (WallTime s m) = refl
+shown-visible (CustomEvent n t) = refl
+shown-visible (CallArgument v) = refl
+shown-visible (Function a f d) = refl
+
+hidden-shown : (t : Trace) (i : ℕ) → hiddenIn t i ≡ hiddenIn (shownIn t) i
+unfolding hiddenIn shownIn
+hidden-shown (item place r after rest) i = rw (shown-visible r, hidden-shown rest i)
+hidden-shown done i = refl
+hidden-shown (refusedAt n place) i = refl
+
+module _ (s t : List ℕ) (o : Overwritten s t) where
+  pub same-form : wellFormed s ≡ wellFormed t
+  same-form = finished-shown (trace s) ∙ ap finished (overwritten s t o) ∙ sym (finished-shown (trace t))
+
+  pub same-hidden : (i : ℕ) → hidden s i ≡ hidden t i
+  unfolding hidden
+  same-hidden i =
+      ap (λ (b : Bool). within 24 32 i || b)
+      (hidden-shown (trace s) i ∙ ap (λ (x : Trace). hiddenIn x i) (overwritten s t o) ∙ sym (hidden-shown (trace t) i))

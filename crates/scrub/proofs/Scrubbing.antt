@@ -1,7 +1,7 @@
 -- The scrubber's two passes over a log. Assumes nothing.
 use Prim.Native.Nat.{ℕ, _+_, _≤_}
 use mathlib.Core.Path.{_≡_, refl, sym, ap, _∙_, subst}
-use mathlib.Core.Bool.{Bool, true, false, _||_}
+use mathlib.Core.Bool.{Bool, true, false, _||_, true≢false}
 use mathlib.Core.List.{List, [], _∷_}
 use native.Mathlib.Omega.{arith}
 use types.Run.{OneOf, miss}
@@ -86,6 +86,12 @@ unfolding ending finished
 ends-badly (item at r after rest) n place e = ends-badly rest n place e
 ends-badly done n place e = clash (cc)
 ends-badly (refusedAt m at) n place e = refl
+
+pub well-scrubbed : (t : Trace) → finished t ≡ true → ending t ≡ scrubbed
+unfolding ending finished
+well-scrubbed (item place r after rest) e = well-scrubbed rest e
+well-scrubbed done e = refl
+well-scrubbed (refusedAt n place) e = absurd (true≢false (sym e))
 
 -- A refused log is left as it was.
 pub left-alone : (s : List ℕ) (n place : ℕ) → refused n place ≡ scrubbing s → s ≡ bytesAfter s

@@ -1,0 +1,66 @@
+-- Demand 3, proved. Assumes nothing.
+use Prim.Native.Nat.{ℕ, _≤_}
+use mathlib.Core.Path.{_≡_, refl, sym, ap, _∙_}
+use mathlib.Core.Bool.{Bool, true, false, _&&_}
+use mathlib.Core.List.{List}
+use native.Mathlib.Omega.{arith}
+use borrow.Author.Tests.{lt-ltb, le-ltb}
+use lib.Dec.{ltb}
+use lib.ListN.{length, getD}
+use Rattle.fdr.specs.Number.{byteAt}
+use Rattle.fdr.specs.Trace.{wellFormed, trace}
+use Rattle.fdr.specs.Hidden.{hidden, Overwritten}
+use Rattle.fdr.proofs.Cases.{by-lt, clash}
+use Rattle.fdr.proofs.Overwriting.{same-form, same-hidden}
+use Rattle.replay.specs.Row.{written}
+use Rattle.replay.specs.Replay.{refusal, answer}
+use Rattle.scrub.specs.Scrub.{scrubbed, scrubbing, zeroed, bytesAfter}
+use Rattle.scrub.proofs.Zeroing.{kept, length-zeroed, getD-zeroed, zeroed-same}
+use Rattle.scrub.proofs.Scrubbing.{well-scrubbed}
+use Rattle.demands.specs.Demand3.{Alike, Demand3, OverwrittenBefore, SameRefusal}
+use Rattle.demands.proofs.Shown.{same-answer, same-table}
+
+scrubbed-copy : (s : List ℕ) → wellFormed s ≡ true → bytesAfter s ≡ zeroed (hidden s) s
+unfolding bytesAfter
+scrubbed-copy s well = rw (well, bytesAfter)
+
+-- A byte of the scrubbed copy.
+copied : (s : List ℕ) → wellFormed s ≡ true → (i : ℕ) (b : Bool) → hidden s i ≡ b → byteAt (bytesAfter s) i ≡ kept b (byteAt s i)
+copied s well i b e =
+    ap (λ (x : List ℕ). byteAt x i) (scrubbed-copy s well)
+    ∙ getD-zeroed (hidden s) s i
+    ∙ ap (λ (x : Bool). kept x (byteAt s i)) e
+
+pub demand3 : Demand3
+demand3 s t well o =
+    let formed : wellFormed t ≡ true = sym (same-form s t o) ∙ well in
+    record {
+      formed = formed;
+      places = same-hidden s t o;
+      answers = same-answer s t o;
+      tables = same-table s t o;
+      accepted = (well-scrubbed (trace s) well, well-scrubbed (trace t) formed);
+      copies = scrubbed-copy s well ∙ zeroed-same (hidden s) (hidden t) s t (o .long) (λ i. same-copied i (hidden s i) refl) ∙ sym (scrubbed-copy t formed);
+      long = ap length (scrubbed-copy s well) ∙ length-zeroed 0 (hidden s) s;
+      zero = λ i h. copied s well i true h;
+      old = λ i h. copied s well i false h;
+    }
+  where
+    same-copied : (i : ℕ) (b : Bool) → hidden s i ≡ b → kept (hidden s i) (getD s i 0) ≡ kept (hidden t i) (getD t i 0)
+    same-copied i true e = rw (← same-hidden s t o i, e)
+    same-copied i false e = rw (← same-hidden s t o i, e) (o .kept i e)
+
+-- Hidden bytes before a place are hidden bytes.
+less : (place : ℕ) (s t : List ℕ) → OverwrittenBefore place s t → Overwritten s t
+less place s t o = record { long = o .long; kept = λ i h. o .kept i (rw h) }
+
+pub sameRefusal : SameRefusal
+unfolding answer
+sameRefusal s t a b n place lo hi e o lb =
+    sym (same-answer s t (less place s t o) a b (enough ∙ sym (le-ltb (length b) written lb))) ∙ e
+  where
+    enough : ltb (length a) written ≡ false
+    enough =
+        by-lt (length a) written
+        (λ l. let short : answer s a ≡ refusal 14 0 = rw (lt-ltb (length a) written l, answer) in let f : n ≡ 14 = cc in absurd (omega arith))
+        (λ l. le-ltb (length a) written l)

@@ -1,0 +1,46 @@
+-- Demand 3: nothing in hidden bytes changes a verdict, and none of them is passed on (paper 01, "How strong each
+-- statement is" and "The numbered refusals"). Stated over the definitions of replay and of the scrubber. Assumes nothing.
+use Prim.Native.Nat.{ℕ, _≤_}
+use mathlib.Core.Path.{_≡_}
+use mathlib.Core.Bool.{true, false, _&&_}
+use mathlib.Core.List.{List}
+use lib.Dec.{ltb}
+use lib.ListN.{length, take}
+use Rattle.fdr.specs.Number.{byteAt}
+use Rattle.fdr.specs.Trace.{wellFormed}
+use Rattle.fdr.specs.Hidden.{hidden, Overwritten}
+use Rattle.replay.specs.Row.{written}
+use Rattle.replay.specs.Replay.{refusal, answer, tableAfter}
+use Rattle.scrub.specs.Scrub.{scrubbed, scrubbing, bytesAfter}
+
+-- What is the same of a log s and of a log t that overwrites its hidden bytes.
+pub record Alike (s t : List ℕ) : Type 0 where
+  -- "the new log is well-formed with its hidden bytes at the same places"
+  pub formed : wellFormed t ≡ true
+  pub places : (i : ℕ) → hidden s i ≡ hidden t i
+  -- "Where 14 applies to both replays or to neither, they give the same counts and the same refusal and place, or both
+  -- no refusal"
+  pub answers : (a b : List ℕ) → ltb (length a) written ≡ ltb (length b) written → answer s a ≡ answer t b
+  -- "where to neither, the written parts of their tables then hold the same numbers, whatever the tables held before"
+  pub tables : (a b : List ℕ) → written ≤ length a → written ≤ length b → take written (tableAfter s a) ≡ take written (tableAfter t b)
+  -- "The scrubber accepts both logs, and the scrubbed copy is what the log holds after it."
+  pub accepted : (scrubbing s ≡ scrubbed) × (scrubbing t ≡ scrubbed)
+  -- "the scrubbed copies are equal, zero in every hidden byte and the old byte elsewhere"
+  pub copies : bytesAfter s ≡ bytesAfter t
+  pub long : length (bytesAfter s) ≡ length s
+  pub zero : (i : ℕ) → hidden s i ≡ true → byteAt (bytesAfter s) i ≡ 0
+  pub old : (i : ℕ) → hidden s i ≡ false → byteAt (bytesAfter s) i ≡ byteAt s i
+
+-- "For every well-formed log and every overwriting of its hidden bytes"
+abbrev pub Demand3 : Type 0
+Demand3 = (s t : List ℕ) → wellFormed s ≡ true → Overwritten s t → Alike s t
+
+-- An overwriting of "the hidden bytes that lie before the refused place"
+pub record OverwrittenBefore (place : ℕ) (s t : List ℕ) : Type 0 where
+  pub long : length s ≡ length t
+  pub kept : (i : ℕ) → (hidden s i && ltb i place) ≡ false → byteAt s i ≡ byteAt t i
+
+-- "For a log refused by 5 to 13, overwriting the hidden bytes that lie before the refused place gives the same replay
+-- refusal and place."
+abbrev pub SameRefusal : Type 0
+SameRefusal = (s t a b : List ℕ) (n place : ℕ) → 5 ≤ n → n ≤ 13 → answer s a ≡ refusal n place → OverwrittenBefore place s t → written ≤ length b → answer t b ≡ refusal n place
