@@ -10,7 +10,8 @@ use Rattle.fdr.specs.Walk.{Stepping, over, went, stopped}
 use Rattle.fdr.specs.declared.record.Record.{Record}
 use Rattle.fdr.specs.declared.record.Record.the-variants.{Function, NewBuffer, EndOfBuffer, NewCpuId, TscWrap, WallTime, CustomEvent, CallArgument}
 use Rattle.replay.specs.Replay.{Verdict, report, refusal}
-use Rattle.probe.specs.Numbers.{verdictNumbers, recordNumbers, openingNumbers, readingNumbers, steppingNumbers}
+use Rattle.scrub.specs.Scrub.{Scrubbing, scrubbed}
+use Rattle.probe.specs.Numbers.{scrubbingNumbers, verdictNumbers, recordNumbers, openingNumbers, readingNumbers, steppingNumbers}
 
 -- The first four of a list.
 abbrev pub four : List ℕ → List ℕ
@@ -48,6 +49,10 @@ stepping-long (stopped n place) = refl
 pub verdict-long : (x : Verdict) → length (verdictNumbers x) ≡ 5
 verdict-long (report r b n o) = refl
 verdict-long (refusal n place) = refl
+
+pub scrubbing-long : (x : Scrubbing) → length (scrubbingNumbers x) ≡ 2
+scrubbing-long scrubbed = refl
+scrubbing-long (Scrubbing.refused n place) = refl
 
 -- Past its end a list reads as 0.
 pub past : (l : List ℕ) (n i : ℕ) → length l ≡ n → n ≤ i → 0 ≡ getD l i 0

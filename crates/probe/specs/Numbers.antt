@@ -1,4 +1,4 @@
--- The answers of the reader, the walk and the replay as lists of numbers. Assumes nothing.
+-- The answers of the reader, the walk, the replay and the scrubber as lists of numbers. Assumes nothing.
 use Prim.Native.Nat.{ℕ}
 use mathlib.Core.Bool.{true, false}
 use mathlib.Core.List.{List, [], _∷_}
@@ -8,6 +8,7 @@ use Rattle.fdr.specs.Header.{Opening, passed, failed}
 use Rattle.fdr.specs.Reading.{Reading, found, refused}
 use Rattle.fdr.specs.Walk.{Stepping, over, went, stopped}
 use Rattle.replay.specs.Replay.{Verdict, report, refusal}
+use Rattle.scrub.specs.Scrub.{Scrubbing, scrubbed}
 use Rattle.fdr.specs.declared.record.Record.{Record}
 use Rattle.fdr.specs.declared.record.Record.the-variants.{Function, NewBuffer, EndOfBuffer, NewCpuId, TscWrap, WallTime, CustomEvent, CallArgument}
 use Rattle.fdr.specs.declared.grammar.Stage.{Stage}
@@ -84,3 +85,8 @@ positionOf place end size stage thread =
 abbrev pub verdictNumbers : Verdict → List ℕ
 verdictNumbers (report rows buffers records calls) = 0 ∷ rows ∷ buffers ∷ records ∷ calls ∷ []
 verdictNumbers (refusal n place) = n ∷ place ∷ 0 ∷ 0 ∷ 0 ∷ []
+
+-- 0 twice where the log was scrubbed, or the refusal's number and its place.
+abbrev pub scrubbingNumbers : Scrubbing → List ℕ
+scrubbingNumbers scrubbed = 0 ∷ 0 ∷ []
+scrubbingNumbers (Scrubbing.refused n place) = n ∷ place ∷ []

@@ -1,4 +1,4 @@
-// The reader, the walk and the replay on numbers and byte slices, for tests and benchmarks in other languages.
+// The reader, the walk, the replay and the scrubber on numbers and byte slices, for tests and benchmarks in other languages.
 // Each function answers one number, the `which`-th of its answer written as a list (specs/Numbers.antt),
 // and 0 past the list's end.
 mod list;
@@ -8,12 +8,14 @@ ghost use lib.ListN.{getD};
 ghost use Rattle.fdr.specs.Header.{openedWithin, longest};
 ghost use Rattle.fdr.specs.Reading.{reading, eventAt};
 ghost use Rattle.fdr.specs.Walk.{next};
-ghost use Rattle.probe.specs.Numbers.{openingNumbers, readingNumbers, eventNumbers, steppingNumbers, positionOf, verdictNumbers};
+ghost use Rattle.probe.specs.Numbers.{openingNumbers, readingNumbers, eventNumbers, steppingNumbers, positionOf, verdictNumbers, scrubbingNumbers};
 ghost use Rattle.replay.specs.Replay.{answer, tableAfter};
+ghost use Rattle.scrub.specs.Scrub.{scrubbing, bytesAfter};
 use list::answer_numbers;
 use list::opened_numbers;
 use list::position_of;
 use list::read_numbers;
+use list::scrub_numbers;
 use list::step_numbers;
 
 #[no_mangle]
@@ -80,6 +82,19 @@ pub extern "C" fn probe_replay(log: &[u8], table: &mut [u64], which: u64) -> u64
 {
     let numbers = answer_numbers(replay::replay(log, table));
     if which < 5 {
+        numbers[which as usize]
+    } else {
+        0
+    }
+}
+
+#[no_mangle]
+pub extern "C" fn probe_scrub(log: &mut [u8], which: u64) -> u64
+    ensures { λ r. ⌜ r ≡ getD (scrubbingNumbers (scrubbing (now (log .entry)))) which 0 ⌝ }
+    ensures { λ _. ⌜ now (log .exit) ≡ bytesAfter (now (log .entry)) ⌝ }
+{
+    let numbers = scrub_numbers(scrub::scrub(log));
+    if which < 2 {
         numbers[which as usize]
     } else {
         0

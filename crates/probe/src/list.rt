@@ -4,7 +4,8 @@ ghost use Rattle.fdr.specs.Header.{openingOf};
 ghost use Rattle.fdr.specs.Reading.{readingOf};
 ghost use Rattle.fdr.specs.Walk.{steppingOf};
 ghost use Rattle.replay.specs.Replay.{verdictOf};
-ghost use Rattle.probe.specs.Numbers.{verdictNumbers, recordNumbers, openingNumbers, readingNumbers, steppingNumbers, stageNumber, threadNumber, stageOf, threadsOf, positionOf};
+ghost use Rattle.scrub.specs.Scrub.{scrubbingOf};
+ghost use Rattle.probe.specs.Numbers.{scrubbingNumbers, verdictNumbers, recordNumbers, openingNumbers, readingNumbers, steppingNumbers, stageNumber, threadNumber, stageOf, threadsOf, positionOf};
 use fdr::grammar::Stage;
 use fdr::grammar::Threads;
 use fdr::header::Opened;
@@ -158,5 +159,14 @@ pub fn answer_numbers(answer: Answer) -> [u64; 5]
             open,
         } => [0, rows, buffers, records, open],
         Answer::Refused { refusal, place } => [refusal.number(), place, 0, 0, 0],
+    }
+}
+
+pub fn scrub_numbers(answer: scrub::Answer) -> [u64; 2]
+    ensures { λ r. ⌜ r ≡ scrubbingNumbers (scrubbingOf answer) ⌝ }
+{
+    match answer {
+        scrub::Answer::Scrubbed => [0, 0],
+        scrub::Answer::Refused { refusal, place } => [refusal.number(), place],
     }
 }

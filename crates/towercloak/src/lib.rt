@@ -1,9 +1,11 @@
 // The C interface (include/towercloak.h): what a C program calls, on numbers and bytes.
 ghost use mathlib.Core.Path.{_≡_};
 ghost use Rattle.compare.specs.Compare.{compared};
-ghost use Rattle.towercloak.specs.Interface.{orderNumber, sideOf};
+ghost use Rattle.scrub.specs.Scrub.{scrubbing, bytesAfter};
+ghost use Rattle.towercloak.specs.Interface.{orderNumber, sideOf, scrubNumber, scrubPlace};
 use compare::Compared;
 use compare::Side;
+use scrub::Answer;
 
 // 0 lower, 1 equal, 2 higher, or the refusal's number, 17 or 18.
 #[no_mangle]
@@ -42,4 +44,20 @@ pub extern "C" fn towercloak_compare(
         Compared::Higher => 2,
         Compared::Refused(refusal) => refusal.number() as u32,
     }
+}
+
+// 0 and zero in every hidden byte, or the refusal's number, its place, and the bytes as they were.
+#[no_mangle]
+pub extern "C" fn towercloak_scrub(log: &mut [u8], place: &mut u64) -> u32
+    ensures { λ r. ⌜ r ≡ scrubNumber (scrubbing (now (log .entry))) ⌝ }
+    ensures { λ _. ⌜ now (place .exit) ≡ scrubPlace (scrubbing (now (log .entry))) ⌝ }
+    ensures { λ _. ⌜ now (log .exit) ≡ bytesAfter (now (log .entry)) ⌝ }
+{
+    let answer = scrub::scrub(log);
+    let Answer::Refused { refusal, place: at } = answer else {
+        *place = 0;
+        return 0;
+    };
+    *place = at;
+    refusal.number() as u32
 }
