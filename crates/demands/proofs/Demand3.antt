@@ -6,18 +6,18 @@ use mathlib.Core.List.{List}
 use native.Mathlib.Omega.{arith}
 use borrow.Author.Tests.{lt-ltb, le-ltb}
 use lib.Dec.{ltb}
-use lib.ListN.{length, getD}
+use lib.ListN.{length, getD, take}
 use Rattle.fdr.specs.Number.{byteAt}
 use Rattle.fdr.specs.Trace.{wellFormed, trace}
 use Rattle.fdr.specs.Hidden.{hidden, Overwritten}
 use Rattle.fdr.proofs.Cases.{by-lt, clash}
 use Rattle.fdr.proofs.Overwriting.{same-form, same-hidden}
 use Rattle.replay.specs.Row.{written}
-use Rattle.replay.specs.Replay.{refusal, answer}
-use Rattle.scrub.specs.Scrub.{scrubbed, scrubbing, zeroed, bytesAfter}
+use Rattle.replay.specs.Replay.{Verdict, refusal, answer}
+use Rattle.scrub.specs.Scrub.{Scrubbing, zeroed, bytesAfter}
 use Rattle.scrub.proofs.Zeroing.{kept, length-zeroed, getD-zeroed, zeroed-same}
 use Rattle.scrub.proofs.Scrubbing.{well-scrubbed}
-use Rattle.demands.specs.Demand3.{Alike, Demand3, OverwrittenBefore, SameRefusal}
+use Rattle.demands.specs.Demand3.{Alike, Demand3, OverwrittenBefore, SameRefusal, Ran, RanAlike}
 use Rattle.demands.proofs.Shown.{same-answer, same-table}
 
 scrubbed-copy : (s : List ℕ) → wellFormed s ≡ true → bytesAfter s ≡ zeroed (hidden s) s
@@ -64,3 +64,19 @@ sameRefusal s t a b n place lo hi e o lb =
         by-lt (length a) written
         (λ l. let short : answer s a ≡ refusal 14 0 = rw (lt-ltb (length a) written l, answer) in let f : n ≡ 14 = cc in absurd (omega arith))
         (λ l. le-ltb (length a) written l)
+
+-- Demand 3 of what the functions answer and leave.
+pub ran-alike : (s t a b : List ℕ) (v w : Verdict) (u n : List ℕ) (c d : Scrubbing) (x y : List ℕ) → Ran s a v u c x → Ran t b w n d y → wellFormed s ≡ true → Overwritten s t → RanAlike s t a b v w u n c d x y
+ran-alike s t a b v w u n c d x y f g well o =
+    let z : Alike s t = demand3 s t well o in
+    record {
+      formed = z .formed;
+      places = z .places;
+      answers = λ e. f .verdict ∙ z .answers a b e ∙ sym (g .verdict);
+      tables = λ la lb. ap (take written) (f .numbers) ∙ z .tables a b la lb ∙ ap (take written) (sym (g .numbers));
+      accepted = (f .says ∙ z .accepted .0, g .says ∙ z .accepted .1);
+      copies = f .bytes ∙ z .copies ∙ sym (g .bytes);
+      long = ap length (f .bytes) ∙ z .long;
+      zero = λ i h. ap (λ (l : List ℕ). byteAt l i) (f .bytes) ∙ z .zero i h;
+      old = λ i h. ap (λ (l : List ℕ). byteAt l i) (f .bytes) ∙ z .old i h;
+    }

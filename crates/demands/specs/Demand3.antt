@@ -10,8 +10,8 @@ use Rattle.fdr.specs.Number.{byteAt}
 use Rattle.fdr.specs.Trace.{wellFormed}
 use Rattle.fdr.specs.Hidden.{hidden, Overwritten}
 use Rattle.replay.specs.Row.{written}
-use Rattle.replay.specs.Replay.{refusal, answer, tableAfter}
-use Rattle.scrub.specs.Scrub.{scrubbed, scrubbing, bytesAfter}
+use Rattle.replay.specs.Replay.{Verdict, refusal, answer, tableAfter}
+use Rattle.scrub.specs.Scrub.{Scrubbing, scrubbed, scrubbing, bytesAfter}
 
 -- What is the same of a log s and of a log t that overwrites its hidden bytes.
 pub record Alike (s t : List ℕ) : Type 0 where
@@ -44,3 +44,23 @@ pub record OverwrittenBefore (place : ℕ) (s t : List ℕ) : Type 0 where
 -- refusal and place."
 abbrev pub SameRefusal : Type 0
 SameRefusal = (s t a b : List ℕ) (n place : ℕ) → 5 ≤ n → n ≤ 13 → answer s a ≡ refusal n place → OverwrittenBefore place s t → written ≤ length b → answer t b ≡ refusal n place
+
+-- What `replay` and `scrub` answer and leave of one log, by their contracts: the verdict, the table, the scrubber's
+-- answer and the bytes.
+pub record Ran (s table : List ℕ) (v : Verdict) (u : List ℕ) (c : Scrubbing) (x : List ℕ) : Type 0 where
+  pub verdict : v ≡ answer s table
+  pub numbers : u ≡ tableAfter s table
+  pub says : c ≡ scrubbing s
+  pub bytes : x ≡ bytesAfter s
+
+-- `Alike` of what the code answered and left, of the log s and of the log t.
+pub record RanAlike (s t a b : List ℕ) (v w : Verdict) (u n : List ℕ) (c d : Scrubbing) (x y : List ℕ) : Type 0 where
+  pub formed : wellFormed t ≡ true
+  pub places : (i : ℕ) → hidden s i ≡ hidden t i
+  pub answers : ltb (length a) written ≡ ltb (length b) written → v ≡ w
+  pub tables : written ≤ length a → written ≤ length b → take written u ≡ take written n
+  pub accepted : (c ≡ scrubbed) × (d ≡ scrubbed)
+  pub copies : x ≡ y
+  pub long : length x ≡ length s
+  pub zero : (i : ℕ) → hidden s i ≡ true → byteAt x i ≡ 0
+  pub old : (i : ℕ) → hidden s i ≡ false → byteAt x i ≡ byteAt s i

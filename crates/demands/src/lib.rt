@@ -1,1 +1,45 @@
-// What the crates promise together: no code of its own, see specs/.
+// What the crates promise together: the statements in specs/, and demand 3 of the functions themselves.
+ghost use mathlib.Core.Path.{_≡_};
+ghost use mathlib.Core.Bool.{true};
+ghost use Rattle.fdr.specs.Trace.{wellFormed};
+ghost use Rattle.fdr.specs.Hidden.{Overwritten};
+ghost use Rattle.replay.specs.Replay.{verdictOf};
+ghost use Rattle.scrub.specs.Scrub.{scrubbingOf};
+ghost use Rattle.demands.specs.Demand3.{Ran, RanAlike};
+
+// The answers of one log's replay and of its scrubber.
+pub struct Answers {
+    pub replayed: replay::Answer,
+    pub scrubbed: scrub::Answer,
+}
+
+// Of two logs.
+pub struct Pair {
+    pub first: Answers,
+    pub second: Answers,
+}
+
+// Replays a log, then scrubs it.
+pub fn run(log: &mut [u8], table: &mut [u64]) -> Answers
+    ensures { λ r. ⌜ Ran (now (log .entry)) (now (table .entry)) (verdictOf (r .replayed)) (now (table .exit)) (scrubbingOf (r .scrubbed)) (now (log .exit)) ⌝ }
+{
+    let replayed = replay::replay(log, table);
+    let scrubbed = scrub::scrub(log);
+    Answers { replayed, scrubbed }
+}
+
+// The same of two logs. Where the second overwrites hidden bytes of the first, nothing tells them apart.
+pub fn run_both(
+    log: &mut [u8],
+    table: &mut [u64],
+    other: &mut [u8],
+    other_table: &mut [u64],
+) -> Pair
+    ensures { λ r. ⌜ Ran (now (log .entry)) (now (table .entry)) (verdictOf (r .first .replayed)) (now (table .exit)) (scrubbingOf (r .first .scrubbed)) (now (log .exit)) ⌝ }
+    ensures { λ r. ⌜ Ran (now (other .entry)) (now («other_table» .entry)) (verdictOf (r .second .replayed)) (now («other_table» .exit)) (scrubbingOf (r .second .scrubbed)) (now (other .exit)) ⌝ }
+    ensures { λ r. ⌜ (wellFormed (now (log .entry)) ≡ true → Overwritten (now (log .entry)) (now (other .entry)) → RanAlike (now (log .entry)) (now (other .entry)) (now (table .entry)) (now («other_table» .entry)) (verdictOf (r .first .replayed)) (verdictOf (r .second .replayed)) (now (table .exit)) (now («other_table» .exit)) (scrubbingOf (r .first .scrubbed)) (scrubbingOf (r .second .scrubbed)) (now (log .exit)) (now (other .exit))) ⌝ }
+{
+    let first = run(log, table);
+    let second = run(other, other_table);
+    Pair { first, second }
+}
