@@ -1,7 +1,7 @@
 -- Demand 3, proved. Assumes nothing.
-use Prim.Native.Nat.{ℕ, _≤_}
+use Prim.Native.Nat.{ℕ}
 use mathlib.Core.Path.{_≡_, refl, sym, ap, _∙_}
-use mathlib.Core.Bool.{Bool, true, false, _&&_}
+use mathlib.Core.Bool.{Bool, true, false}
 use mathlib.Core.List.{List}
 use native.Mathlib.Omega.{arith}
 use borrow.Author.Tests.{lt-ltb, le-ltb}
@@ -10,7 +10,7 @@ use lib.ListN.{length, getD, take}
 use Rattle.fdr.specs.Number.{byteAt}
 use Rattle.fdr.specs.Trace.{wellFormed, trace}
 use Rattle.fdr.specs.Hidden.{hidden, Overwritten}
-use Rattle.fdr.proofs.Cases.{by-lt, clash}
+use Rattle.fdr.proofs.Cases.{by-lt}
 use Rattle.fdr.proofs.Overwriting.{same-form, same-hidden}
 use Rattle.replay.specs.Row.{written}
 use Rattle.replay.specs.Replay.{Verdict, refusal, answer}

@@ -10,4 +10,6 @@ pub mod Agreement
 pub mod Visible
 pub mod Bounds
 pub mod Fields
+pub mod Hiding
 pub mod Overwriting
+pub mod Covering

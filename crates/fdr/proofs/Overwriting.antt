@@ -1,15 +1,14 @@
 -- Overwriting the hidden bytes of a log, well-formed or not, leaves its trace as it was, but for the values of
 -- arguments. Assumes nothing.
-use Prim.Native.Nat.{ℕ, zero, suc, _+_, _<_, _≤_}
+use Prim.Native.Nat.{ℕ, zero, suc, _+_, _≤_}
 use mathlib.Core.Path.{_≡_, refl, sym, ap, _∙_, subst}
-use mathlib.Core.Bool.{Bool, true, false, _&&_, _||_}
+use mathlib.Core.Bool.{Bool, true, false, _||_}
 use mathlib.Core.List.{List}
 use native.Mathlib.Omega.{arith}
-use borrow.Author.Tests.{le-ltb, lt-ltb, le-leb, lt-leb}
 use lib.Dec.{leb, ltb}
 use lib.ListN.{length}
 use Rattle.fdr.specs.Number.{byteAt, number}
-use Rattle.fdr.specs.Record.{sizeOf, visible, eventSize}
+use Rattle.fdr.specs.Record.{sizeOf, visible}
 use Rattle.fdr.specs.Decoded.{known, decoded}
 use Rattle.fdr.specs.Header.{Opening, passed, failed, headerOf, headerTests, openedWithin, longest}
 use Rattle.fdr.specs.Reading.{Reading, found, refused, recordAt}
@@ -26,9 +25,10 @@ use Rattle.fdr.proofs.Cases.{clash}
 use Rattle.fdr.proofs.Numbers.{Agree, number-agree}
 use Rattle.fdr.proofs.Records.{visible-size}
 use Rattle.fdr.proofs.Decoding.{Placed, placed, found-at}
-use Rattle.fdr.proofs.Walking.{step-found, in-front, in-buffer}
+use Rattle.fdr.proofs.Walking.{step-found}
 use Rattle.fdr.proofs.Tracing.{Forward, forward, gone-in, trace-passed}
-use Rattle.fdr.proofs.Agreement.{SameFrom, next-agree}
+use Rattle.fdr.proofs.Hiding.{before-range, behind-range, shown-of, shown-behind, hidden-later, header-first}
+use Rattle.fdr.proofs.Agreement.{next-agree}
 use Rattle.fdr.proofs.Visible.{Like, decoded-visible}
 
 -- A step without what is hidden in its record.
@@ -112,31 +112,6 @@ module _ (s t : List ℕ) (p : Position) (r : Record) (q : Position) (long : len
       go true w = front (ltb (p .place) (length s)) w ∙ ap (λ (n : ℕ). shownStep (elim (ltb (p .place) n) [ true ↦ stepIn t p (p .place + p .size) | false ↦ over ])) long
       go false w = same-in (p .end) w
 
--- What is hidden lies behind the place where a trace starts.
-hidden-later : (f : ℕ) (s : List ℕ) (p : Position) (i : ℕ) → i < p .place → hiddenIn (walked f s p) i ≡ false
-unfolding walked hiddenIn
-hidden-later zero s p i l = refl
-hidden-later (suc f) s p i l = go (next s p) refl (λ r q w. hidden-later f s q i (omega (arith, w .by)))
-  where
-    go : (x : Stepping) → next s p ≡ x → ((r : Record) (q : Position) → Forward s p r q → hiddenIn (walked f s q) i ≡ false) → hiddenIn (traced x (p .place) (λ q. walked f s q)) i ≡ false
-    go over z h = refl
-    go (stopped n at) z h = refl
-    go (went r q) z h = rw (lt-leb (p .place + visible r) i (omega arith), h r q (forward s p r q z))
-
--- Before a range, in it, and behind it.
-pub before-range : (from to i : ℕ) → i < from → within from to i ≡ false
-before-range from to i l = rw (lt-leb from i l)
-
-pub in-range : (from to i : ℕ) → from ≤ i → i < to → within from to i ≡ true
-in-range from to i l h = rw (le-leb from i l, lt-ltb i to h)
-
-pub behind-range : (from to i : ℕ) → to ≤ i → within from to i ≡ false
-behind-range from to i l = go (leb from i)
-  where
-    go : (b : Bool) → (b && ltb i to) ≡ false
-    go true = le-ltb i to l
-    go false = refl
-
 -- A trace without what is hidden is the same in both logs.
 module _ (s t : List ℕ) (long : length s ≡ length t) where
   abbrev Same : ℕ → Trace → Type 0
@@ -162,7 +137,7 @@ module _ (s t : List ℕ) (long : length s ≡ length t) where
       went-on : (r : Record) (q : Position) → next s p ≡ went r q → Same (p .place) (item (p .place) r (q .place) (walked f s q)) → Forward s p r q → shownIn (walked f s q) ≡ shownIn (walked f t q) → shownIn (item (p .place) r (q .place) (walked f s q)) ≡ shownIn (traced (next t p) (p .place) rest)
       went-on r q z h w ih =
           let seen : Agree s t (p .place) (p .place + visible r) =
-          λ i a b. h i a (rw (before-range (p .place + visible r) (q .place) i b) (hidden-later f s q i (omega (arith, w .by, visible-size r)))) in
+          λ i a b. h i a (shown-of (p .place) r (q .place) (walked f s q) i b (hidden-later f s q i (omega (arith, w .by, visible-size r)))) in
           ap (item (p .place) (shown r) (q .place)) ih
           ∙ ap (λ (y : Stepping). traced (shownStep y) (p .place) (λ k. shownIn (rest k))) (sym z)
           ∙ ap (λ (y : Stepping). traced y (p .place) (λ k. shownIn (rest k))) (same-next s t p r q long seen z)
@@ -173,7 +148,7 @@ module _ (s t : List ℕ) (long : length s ≡ length t) where
       go (stopped n at) z h more = ends (stopped n at) z (λ i l. h i l refl)
       go (went r q) z h more =
           let w : Forward s p r q = forward s p r q z in
-          went-on r q z h w (more q (λ i l none. h i (omega (arith, w .by)) (rw (behind-range (p .place + visible r) (q .place) i l) none)))
+          went-on r q z h w (more q (λ i l none. h i (omega (arith, w .by)) (shown-behind (p .place) r (q .place) (walked f s q) i l none)))
 
   trace-shown : (p : Position) → Same (p .place) (traceFrom s p) → shownIn (traceFrom s p) ≡ shownIn (traceFrom t p)
   unfolding traceFrom
@@ -192,14 +167,6 @@ opened-agree limit s t long same =
   where
     part : (k at : ℕ) → at + k ≤ 24 → number k s at ≡ number k t at
     part k at fits = number-agree k s t at (λ i l h. same i (omega arith) (omega arith))
-
-pub header-first : (s : List ℕ) (i : ℕ) → i < 32 → hiddenIn (trace s) i ≡ false
-unfolding traceWithin traceFrom hiddenIn
-header-first s i l = go (openedWithin longest s)
-  where
-    go : (x : Opening) → hiddenIn (elim x [ passed h ↦ traceFrom s (startOf h) | failed n ↦ refusedAt n 0 ]) i ≡ false
-    go (passed h) = hidden-later (suc (length s)) s (startOf h) i l
-    go (failed n) = refl
 
 -- THE LAW OF OVERWRITING: the trace of the new log is the old one's, but for the values of arguments.
 pub overwritten : (s t : List ℕ) → Overwritten s t → shownIn (trace s) ≡ shownIn (trace t)
@@ -235,7 +202,9 @@ shown-visible (Function a f d) = refl
 
 hidden-shown : (t : Trace) (i : ℕ) → hiddenIn t i ≡ hiddenIn (shownIn t) i
 unfolding hiddenIn shownIn
-hidden-shown (item place r after rest) i = rw (shown-visible r, hidden-shown rest i)
+hidden-shown (item place r after rest) i =
+    ap (λ (n : ℕ). within (place + n) after i || hiddenIn rest i) (shown-visible r)
+    ∙ ap (λ (b : Bool). within (place + visible (shown r)) after i || b) (hidden-shown rest i)
 hidden-shown done i = refl
 hidden-shown (refusedAt n place) i = refl
 

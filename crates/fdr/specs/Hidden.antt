@@ -26,6 +26,13 @@ hiddenIn (refusedAt n place) i = false
 unfoldable pub hidden : List ℕ → ℕ → Bool
 hidden s i = within 24 32 i || hiddenIn (trace s) i
 
+-- The other bytes: of an item its record's visible bytes. In a well-formed log each byte behind the header is among
+-- these or hidden (`covered`).
+unfoldable pub visibleIn : Trace → ℕ → Bool
+visibleIn (item place r after rest) i = within place (place + visible r) i || visibleIn rest i
+visibleIn done i = false
+visibleIn (refusedAt n place) i = false
+
 -- A record without what is hidden in it: an argument's value. Every other field is visible.
 unfoldable pub shown : Record → Record
 shown (NewBuffer thread) = NewBuffer thread

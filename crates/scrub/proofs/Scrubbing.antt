@@ -1,7 +1,7 @@
 -- The scrubber's two passes over a log. Assumes nothing.
 use Prim.Native.Nat.{ℕ, _+_, _≤_}
-use mathlib.Core.Path.{_≡_, refl, sym, ap, _∙_, subst}
-use mathlib.Core.Bool.{Bool, true, false, _||_, true≢false}
+use mathlib.Core.Path.{_≡_, refl, sym, ap, _∙_}
+use mathlib.Core.Bool.{Bool, true, false, true≢false}
 use mathlib.Core.List.{List, [], _∷_}
 use native.Mathlib.Omega.{arith}
 use types.Run.{OneOf, miss}
@@ -12,7 +12,7 @@ use Rattle.fdr.specs.Record.{visible}
 use Rattle.fdr.specs.Refusal.{numberOf}
 use Rattle.fdr.specs.Header.{passed, failed, openedWithin, longest}
 use Rattle.fdr.specs.Walk.{Stepping, over, went, stopped, steppingOf, next, startOf}
-use Rattle.fdr.specs.Trace.{Trace, item, done, refusedAt, traced, traceFrom, trace, finished, wellFormed}
+use Rattle.fdr.specs.Trace.{Trace, item, done, refusedAt, traced, traceFrom, trace, finished}
 use Rattle.fdr.specs.Hidden.{within, hiddenIn, hidden}
 use Rattle.fdr.specs.declared.record.Record.{Record}
 use Rattle.fdr.specs.declared.header.Header.{Header}
@@ -22,9 +22,9 @@ use Rattle.fdr.specs.declared.walk.Step.the-variants.{Over, Found, Refused}
 use Rattle.fdr.proofs.walk.Step.{the-type as the-steps}
 use Rattle.fdr.proofs.Cases.{clash}
 use Rattle.fdr.proofs.Records.{visible-size}
-use Rattle.fdr.proofs.Tracing.{Forward, forward, trace-next, trace-passed, trace-failed}
+use Rattle.fdr.proofs.Tracing.{forward, trace-next, trace-passed, trace-failed}
 use Rattle.fdr.proofs.Agreement.{SameFrom, trace-agree}
-use Rattle.scrub.specs.Scrub.{Scrubbing, scrubbed, refused, ending, scrubbing, zeroed, bytesAfter}
+use Rattle.scrub.specs.Scrub.{scrubbed, refused, ending, scrubbing, zeroed, bytesAfter}
 use Rattle.scrub.specs.View.{endOf}
 use Rattle.scrub.proofs.Zeroing.{length-zeroed, zeroed-none, zeroed-or, zeroed-behind}
 

@@ -8,7 +8,7 @@ use native.Mathlib.Nat.{zero-add, add-zero}
 use lib.ListN.{length, getD, set, length-set}
 use lib.Seq.{ext-getD, getD-set-same, getD-set-other}
 use Rattle.fdr.proofs.Cases.{by-eq, by-lt}
-use Rattle.fdr.proofs.Overwriting.{before-range, in-range, behind-range}
+use Rattle.fdr.proofs.Hiding.{before-range, in-range, behind-range}
 use Rattle.fdr.specs.Hidden.{within}
 use Rattle.scrub.specs.Scrub.{zeroedFrom, zeroed}
 

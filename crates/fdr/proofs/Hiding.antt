@@ -1,0 +1,63 @@
+-- Where the hidden bytes of a trace lie. Assumes nothing.
+use Prim.Native.Nat.{ℕ, zero, suc, _+_, _<_, _≤_}
+use mathlib.Core.Path.{_≡_, refl}
+use mathlib.Core.Bool.{Bool, true, false, _&&_, _||_}
+use mathlib.Core.List.{List}
+use native.Mathlib.Omega.{arith}
+use borrow.Author.Tests.{le-ltb, lt-ltb, le-leb, lt-leb}
+use lib.Dec.{leb, ltb}
+use lib.ListN.{length}
+use Rattle.fdr.specs.Record.{visible}
+use Rattle.fdr.specs.Header.{Opening, passed, failed, openedWithin, longest}
+use Rattle.fdr.specs.Walk.{Stepping, over, went, stopped, next, startOf}
+use Rattle.fdr.specs.Trace.{Trace, item, refusedAt, traced, walked, traceFrom, traceWithin, trace}
+use Rattle.fdr.specs.Hidden.{within, hiddenIn}
+use Rattle.fdr.specs.declared.record.Record.{Record}
+use Rattle.fdr.specs.declared.walk.Position.{Position}
+use Rattle.fdr.proofs.Tracing.{Forward, forward}
+
+-- Before a range, in it, and behind it.
+pub before-range : (from to i : ℕ) → i < from → within from to i ≡ false
+before-range from to i l = rw (lt-leb from i l)
+
+pub in-range : (from to i : ℕ) → from ≤ i → i < to → within from to i ≡ true
+in-range from to i l h = rw (le-leb from i l, lt-ltb i to h)
+
+pub behind-range : (from to i : ℕ) → to ≤ i → within from to i ≡ false
+behind-range from to i l = go (leb from i)
+  where
+    go : (b : Bool) → (b && ltb i to) ≡ false
+    go true = le-ltb i to l
+    go false = refl
+
+neither : (a b : Bool) → a ≡ false → b ≡ false → (a || b) ≡ false
+neither true b e f = e
+neither false b e f = f
+
+-- Of an item nothing is hidden before its record's visible bytes end, nor behind it.
+pub shown-of : (place : ℕ) (r : Record) (after : ℕ) (rest : Trace) (i : ℕ) → i < place + visible r → hiddenIn rest i ≡ false → hiddenIn (item place r after rest) i ≡ false
+unfolding hiddenIn
+shown-of place r after rest i l none = neither _ _ (before-range (place + visible r) _ i l) none
+
+pub shown-behind : (place : ℕ) (r : Record) (after : ℕ) (rest : Trace) (i : ℕ) → after ≤ i → hiddenIn rest i ≡ false → hiddenIn (item place r after rest) i ≡ false
+unfolding hiddenIn
+shown-behind place r after rest i l none = neither _ _ (behind-range _ after i l) none
+
+-- What is hidden lies behind the place where a trace starts.
+pub hidden-later : (f : ℕ) (s : List ℕ) (p : Position) (i : ℕ) → i < p .place → hiddenIn (walked f s p) i ≡ false
+unfolding walked hiddenIn
+hidden-later zero s p i l = refl
+hidden-later (suc f) s p i l = go (next s p) refl (λ r q w. hidden-later f s q i (omega (arith, w .by)))
+  where
+    go : (x : Stepping) → next s p ≡ x → ((r : Record) (q : Position) → Forward s p r q → hiddenIn (walked f s q) i ≡ false) → hiddenIn (traced x (p .place) (λ q. walked f s q)) i ≡ false
+    go over z h = refl
+    go (stopped n at) z h = refl
+    go (went r q) z h = shown-of (p .place) r (q .place) (walked f s q) i (omega arith) (h r q (forward s p r q z))
+
+pub header-first : (s : List ℕ) (i : ℕ) → i < 32 → hiddenIn (trace s) i ≡ false
+unfolding traceWithin traceFrom hiddenIn
+header-first s i l = go (openedWithin longest s)
+  where
+    go : (x : Opening) → hiddenIn (elim x [ passed h ↦ traceFrom s (startOf h) | failed n ↦ refusedAt n 0 ]) i ≡ false
+    go (passed h) = hidden-later (suc (length s)) s (startOf h) i l
+    go (failed n) = refl
