@@ -13,6 +13,7 @@ pub mod calls;
 pub mod compare;
 pub mod generate;
 pub mod header;
+pub mod inputs;
 pub mod random;
 pub mod reader;
 pub mod record;
