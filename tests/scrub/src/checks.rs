@@ -81,10 +81,12 @@ impl Checks {
             hidden: parts,
         };
         expected.compare(log, random)?;
-        let text = |text| format!("{text}, in the overwritten log");
-        expected.compare(&other, random).map_err(text)?;
-        self.counts.pair(replayed, short, way);
-        self.counts.changed(log, &other, parts);
+        let named = |text| format!("{text}, in the overwritten log");
+        expected.compare(&other, random).map_err(named)?;
+        if log != other {
+            self.counts.pair(log, replayed, short, way);
+            self.counts.changed(log, &other, parts);
+        }
         Ok(())
     }
 

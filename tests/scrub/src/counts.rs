@@ -5,13 +5,16 @@ use second::inputs::Kind;
 use second::replay::Answer;
 use second::scrub::{self, Part};
 
+/// The least bytes of a log of about 16 MiB.
+const HUGE: usize = 16_000_000;
+
 /// Hidden bytes of one kind, in well-formed logs.
 #[derive(Clone, Copy, Default)]
 pub struct Hidden {
     pub bytes: u64,
     /// Those that weren't zero.
     pub dirty: u64,
-    /// Those that another log of a pair had changed.
+    /// Those that a pair's other log has another value in.
     pub changed: u64,
 }
 
@@ -20,7 +23,6 @@ pub struct Counts {
     /// Logs by kind, in the order of `Kind::all()`.
     pub kinds: Vec<u64>,
     pub samples: u64,
-    pub huge: u64,
     /// The scrubber's answers by refusal; index 0 counts scrubbed logs.
     pub scrubbed: [u64; 9],
     /// By kind of the hidden bytes.
@@ -30,6 +32,8 @@ pub struct Counts {
     pub pairs: [u64; 15],
     /// The same pairs by what was overwritten.
     pub ways: [u64; Way::ALL.len()],
+    /// Those of about 16 MiB.
+    pub huge: u64,
     /// Pairs of refused logs by refusal.
     pub refused: [u64; 14],
 }
@@ -60,7 +64,7 @@ impl Counts {
         }
     }
 
-    pub fn pair(&mut self, replayed: &Answer, short: bool, way: Way) {
+    pub fn pair(&mut self, log: &[u8], replayed: &Answer, short: bool, way: Way) {
         let number = match *replayed {
             _ if short => 14,
             Answer::Refused { number, .. } => usize::from(number),
@@ -68,6 +72,7 @@ impl Counts {
         };
         self.pairs[number] += 1;
         self.ways[way as usize] += 1;
+        self.huge += u64::from(log.len() >= HUGE);
     }
 
     pub fn changed(&mut self, log: &[u8], other: &[u8], hidden: &[Part]) {
@@ -95,7 +100,6 @@ impl Counts {
             println!("{:<22}{count:>12}", kind.name());
         }
         println!("{:<22}{:>12}", "samples", self.samples);
-        println!("{:<22}{:>12}", "more of 16 MiB", self.huge);
         println!();
         println!(
             "{:<22}{:>12}{:>12}{:>12}",
@@ -125,6 +129,7 @@ impl Counts {
         for (way, count) in Way::ALL.iter().zip(self.ways) {
             println!("{:<22}{count:>12}", format!("{way:?}"));
         }
+        println!("{:<22}{:>12}", "about 16 MiB", self.huge);
         println!();
         let names = ["bytes", "not zero", "changed"];
         println!(
@@ -170,6 +175,7 @@ impl Counts {
         for (way, count) in Way::ALL.iter().zip(self.ways) {
             need(count, format!("no pair overwritten by {way:?}"));
         }
+        need(self.huge, "no pair of about 16 MiB".to_string());
         for (kind, count) in scrub::Kind::ALL.iter().zip(self.hidden) {
             need(count.dirty, format!("hidden {kind:?} was always zero"));
             need(count.changed, format!("hidden {kind:?} was never changed"));
