@@ -1,13 +1,17 @@
 //! Links the proved code into each program: `libtowercloak.a` into `compare`,
-//! `libprobe.a` into `replay`. The static libraries are looked for in the
-//! folder that `STATICLIB_DIR` names, else in the repository's
+//! `libprobe.a` into `replay` and `scrub`. The static libraries are looked for
+//! in the folder that `STATICLIB_DIR` names, else in the repository's
 //! `target/staticlib`.
 
 use std::env;
 use std::path::PathBuf;
 
 /// The programs and their libraries.
-const LINKED: [(&str, &str); 2] = [("compare", "libtowercloak.a"), ("replay", "libprobe.a")];
+const LINKED: [(&str, &str); 3] = [
+    ("compare", "libtowercloak.a"),
+    ("replay", "libprobe.a"),
+    ("scrub", "libprobe.a"),
+];
 
 fn main() {
     let folder = match env::var_os("STATICLIB_DIR") {

@@ -1,4 +1,4 @@
-/* Towercloak: exact comparison of times measured in XRay flight data recorder logs.
+/* Towercloak: scrubbing of XRay flight data recorder logs, and exact comparison of times measured in them.
  *
  * Link with libtowercloak.a (`rt staticlib towercloak` writes it to target/staticlib/).
  * Every function may be handed any numbers at all; it keeps no state and touches no memory of the
@@ -7,6 +7,7 @@
 #ifndef TOWERCLOAK_H
 #define TOWERCLOAK_H
 
+#include <stddef.h>
 #include <stdint.h>
 
 #ifdef __cplusplus
@@ -39,6 +40,20 @@ uint32_t towercloak_compare(uint64_t frequency_a, uint64_t constant_tsc_a, uint6
                             uint64_t backward_a, uint64_t ticks_a,
                             uint64_t frequency_b, uint64_t constant_tsc_b, uint64_t closed_b,
                             uint64_t backward_b, uint64_t ticks_b);
+
+/* Scrubs the log in these length bytes, in place.
+ *
+ * 0       it was well-formed. Now its hidden bytes are 0: header bytes 24 to 31, every reserved or unused
+ *         byte of a record, the arguments of calls, the bytes of events, and the skipped rest of each
+ *         buffer. All others are as they were, and *place is 0.
+ * 1 to 8  it was refused by the rule of this number. All its bytes are as they were, and *place is where:
+ *         the offset of the refused record's first byte, or of the buffer's end where no byte is left for
+ *         a record, and 0 for 1 to 4.
+ *
+ * log may be null where length is 0; the answer is then 1. place must point to one number, which is
+ * written whatever the answer.
+ */
+uint32_t towercloak_scrub(uint8_t *log, size_t length, uint64_t *place);
 
 #ifdef __cplusplus
 }

@@ -1,6 +1,6 @@
 //! What a run has seen.
 
-use crate::inputs::Kind;
+use second::inputs::Kind;
 use second::replay::{Answer, TABLE};
 
 #[derive(Default)]

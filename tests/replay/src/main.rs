@@ -8,14 +8,13 @@
 
 mod compare;
 mod counts;
-mod inputs;
 mod program;
 #[allow(unsafe_code)]
 mod proved;
 
 use compare::{Comparison, Difference};
 use counts::Counts;
-use inputs::Kind;
+use second::inputs::{self, Kind, SEED};
 use second::random::Random;
 use second::replay::TABLE;
 use std::path::PathBuf;
@@ -76,7 +75,7 @@ impl Run {
 
     fn generated(&mut self, logs: u64) -> Result<(), String> {
         for index in 0..logs {
-            let (kind, seed) = Kind::at(index);
+            let (kind, seed) = Kind::at(index, SEED);
             let random = &mut Random::new(!seed);
             let length = compare::table_length(random);
             self.compare(&kind.log(seed), length, random.once_in(4))

@@ -1,8 +1,8 @@
 //! The program that replays a log from standard input: what it prints,
 //! compared byte by byte. Paper 01, "Sample logs".
 
-use crate::inputs::{self, Kind};
 use second::calls;
+use second::inputs::{self, Kind};
 use second::random::Random;
 use second::replay::{lines, INPUT};
 use std::io::{self, ErrorKind, Write};

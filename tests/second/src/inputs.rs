@@ -1,11 +1,12 @@
-//! The logs of a run: those made for the replay, and those made for reading.
+//! The logs of a run: those made for the replay, those made for reading, and
+//! the samples.
 
-use second::calls;
-use second::generate;
+use crate::calls;
+use crate::generate;
 use std::path::{Path, PathBuf};
 
-/// The seed of the first log of either sort.
-const SEED: u64 = 0x5EED_0000_0000_0000;
+/// The seed of a run where no other is given.
+pub const SEED: u64 = 0x5EED_0000_0000_0000;
 
 /// What a log was made as.
 #[derive(Debug, Clone, Copy, PartialEq, Eq)]
@@ -22,15 +23,16 @@ impl Kind {
         calls.chain(logs).collect()
     }
 
-    /// The kind and the seed of the log with this index in a run. Two of three
-    /// are made for the replay.
-    pub fn at(index: u64) -> (Kind, u64) {
+    /// The kind and the seed of the log with this index in a run with this
+    /// seed. Two of three are made for the replay.
+    pub fn at(index: u64, seed: u64) -> (Kind, u64) {
         let (third, part) = (index / 3, index % 3);
         if part == 2 {
-            return (Kind::Logs(generate::Kind::at(third)), SEED + third);
+            let kind = generate::Kind::at(third);
+            return (Kind::Logs(kind), seed.wrapping_add(third));
         }
         let own = third * 2 + part;
-        (Kind::Calls(calls::Kind::at(own)), SEED + own)
+        (Kind::Calls(calls::Kind::at(own)), seed.wrapping_add(own))
     }
 
     pub fn log(self, seed: u64) -> Vec<u8> {
