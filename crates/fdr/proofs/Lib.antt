@@ -12,3 +12,5 @@ pub mod Agreement
 pub mod Visible
 pub mod Bounds
 pub mod Fields
+pub mod ReadBack
+pub mod Rewriting

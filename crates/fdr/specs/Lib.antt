@@ -11,6 +11,7 @@ pub mod Grammar
 pub mod Walk
 pub mod Trace
 pub mod Hidden
+pub mod RoundTrip
 pub mod Sample
 pub mod FirstByte
 pub mod InRange
