@@ -1,6 +1,7 @@
 //! A second, independent reading of trace logs after Paper 01: the header's
-//! tests, the record reader, the walk from record to record with the grammar,
-//! replay with its table, and the comparison of two times. With it come
+//! tests, the record reader, the record writer, the walk from record to record
+//! with the grammar, replay with its table, and the comparison of two times.
+//! With it come
 //! generators of logs, sound and damaged, for comparing another implementation
 //! with this one.
 //!
@@ -18,3 +19,4 @@ pub mod reader;
 pub mod record;
 pub mod replay;
 pub mod walk;
+pub mod writer;
