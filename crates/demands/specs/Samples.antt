@@ -4,13 +4,14 @@ use Prim.Native.Nat.{ℕ, _-_, _^_}
 use mathlib.Core.Path.{_≡_, refl}
 use mathlib.Core.List.{List, [], _∷_, _++_}
 use lib.ListN.{length, take, replicate}
-use Rattle.fdr.specs.Number.{number, bytesOf}
+use Rattle.fdr.specs.Number.{number, bytesOf, zeros}
 use Rattle.fdr.specs.Decoded.{functionAt, metadataAt, decoded}
 use Rattle.fdr.specs.Header.{headerOf, headerTests, openedWithin}
 use Rattle.fdr.specs.Reading.{sizeTest, recordAt}
 use Rattle.fdr.specs.Walk.{stepIn, next}
 use Rattle.fdr.specs.Trace.{walked, traceFrom, traceWithin}
-use Rattle.fdr.specs.Sample.{zeros, headerBytes, metadataBytes, functionBytes, cpuBytes, logBytes, sampleB, sampleWrongExit, sampleAbandoned, sampleBackward, sampleNested, sampleShortest, sampleTooShort, sampleClock, sampleArgument}
+use Rattle.fdr.specs.Writing.{metadataBytes, functionBytes}
+use Rattle.fdr.specs.Sample.{headerBytes, cpuBytes, logBytes, sampleB, sampleWrongExit, sampleAbandoned, sampleBackward, sampleNested, sampleShortest, sampleTooShort, sampleClock, sampleArgument}
 use Rattle.replay.specs.Row.{rowOf, flat, tableOf}
 use Rattle.replay.specs.Row.{zeros as blanks}
 use Rattle.replay.specs.Stack.{nearest, abandonAll}

@@ -1,8 +1,10 @@
 pub mod Cases
 pub mod Refusals
 pub mod Numbers
+pub mod Storing
 pub mod Records
 pub mod Decoding
+pub mod Writing
 pub mod Opening
 pub mod Walking
 pub mod Tracing
@@ -13,3 +15,5 @@ pub mod Fields
 pub mod Hiding
 pub mod Overwriting
 pub mod Covering
+pub mod ReadBack
+pub mod Rewriting

@@ -1,17 +1,18 @@
 -- Laws of the answers as lists. Assumes nothing.
-use Prim.Native.Nat.{ℕ, zero, suc, _-_, _≤_}
+use Prim.Native.Nat.{ℕ, zero, suc, _-_, _%_, _^_, _≤_}
 use mathlib.Core.Path.{_≡_, refl, sym, ap, _∙_}
 use mathlib.Core.List.{List, [], _∷_}
 use native.Mathlib.Omega.{arith}
 use lib.ListN.{length, getD, List·getD-eq-default}
 use Rattle.fdr.specs.Header.{Opening, passed, failed}
 use Rattle.fdr.specs.Reading.{Reading, found, refused}
+use Rattle.fdr.specs.Writing.{Writing, wrote, denied}
 use Rattle.fdr.specs.Walk.{Stepping, over, went, stopped}
 use Rattle.fdr.specs.declared.record.Record.{Record}
 use Rattle.fdr.specs.declared.record.Record.the-variants.{Function, NewBuffer, EndOfBuffer, NewCpuId, TscWrap, WallTime, CustomEvent, CallArgument}
 use Rattle.replay.specs.Replay.{Verdict, report, refusal}
 use Rattle.scrub.specs.Scrub.{Scrubbing, scrubbed}
-use Rattle.probe.specs.Numbers.{scrubbingNumbers, verdictNumbers, recordNumbers, openingNumbers, readingNumbers, steppingNumbers}
+use Rattle.probe.specs.Numbers.{scrubbingNumbers, verdictNumbers, writingNumbers, recordOf, recordNumbers, openingNumbers, readingNumbers, steppingNumbers}
 
 -- The first four of a list.
 abbrev pub four : List ℕ → List ℕ
@@ -49,6 +50,23 @@ stepping-long (stopped n place) = refl
 pub verdict-long : (x : Verdict) → length (verdictNumbers x) ≡ 5
 verdict-long (report r b n o) = refl
 verdict-long (refusal n place) = refl
+
+pub writing-long : (x : Writing) → length (writingNumbers x) ≡ 2
+writing-long (wrote n) = refl
+writing-long (denied n) = refl
+
+-- Any other kind is a function record's.
+pub function-of : (kind a b c : ℕ) → (kind ≡ 0 → ⊥) → (kind ≡ 1 → ⊥) → (kind ≡ 2 → ⊥) → (kind ≡ 3 → ⊥) → (kind ≡ 4 → ⊥) → (kind ≡ 5 → ⊥) → (kind ≡ 6 → ⊥)
+    → recordOf kind a b c ≡ Function (a % 2 ^ 8) (b % 2 ^ 32) (c % 2 ^ 32)
+unfolding recordOf
+function-of zero a b c e0 e1 e2 e3 e4 e5 e6 = absurd (e0 refl)
+function-of (suc zero) a b c e0 e1 e2 e3 e4 e5 e6 = absurd (e1 refl)
+function-of (suc (suc zero)) a b c e0 e1 e2 e3 e4 e5 e6 = absurd (e2 refl)
+function-of (suc (suc (suc zero))) a b c e0 e1 e2 e3 e4 e5 e6 = absurd (e3 refl)
+function-of (suc (suc (suc (suc zero)))) a b c e0 e1 e2 e3 e4 e5 e6 = absurd (e4 refl)
+function-of (suc (suc (suc (suc (suc zero))))) a b c e0 e1 e2 e3 e4 e5 e6 = absurd (e5 refl)
+function-of (suc (suc (suc (suc (suc (suc zero)))))) a b c e0 e1 e2 e3 e4 e5 e6 = absurd (e6 refl)
+function-of (suc (suc (suc (suc (suc (suc (suc k))))))) a b c e0 e1 e2 e3 e4 e5 e6 = refl
 
 pub scrubbing-long : (x : Scrubbing) → length (scrubbingNumbers x) ≡ 2
 scrubbing-long scrubbed = refl

@@ -1,11 +1,12 @@
--- The answers of the reader, the walk, the replay and the scrubber as lists of numbers. Assumes nothing.
-use Prim.Native.Nat.{ℕ}
+-- The answers of the reader, the writer, the walk, the replay and the scrubber as lists of numbers. Assumes nothing.
+use Prim.Native.Nat.{ℕ, _%_, _^_}
 use mathlib.Core.Bool.{true, false}
 use mathlib.Core.List.{List, [], _∷_}
 use lib.Dec.{eqb, ltb}
-use lib.ListN.{length}
+use lib.ListN.{length, getD}
 use Rattle.fdr.specs.Header.{Opening, passed, failed}
 use Rattle.fdr.specs.Reading.{Reading, found, refused}
+use Rattle.fdr.specs.Writing.{Writing, wrote, denied}
 use Rattle.fdr.specs.Walk.{Stepping, over, went, stopped}
 use Rattle.replay.specs.Replay.{Verdict, report, refusal}
 use Rattle.scrub.specs.Scrub.{Scrubbing, scrubbed}
@@ -85,6 +86,26 @@ positionOf place end size stage thread =
 abbrev pub verdictNumbers : Verdict → List ℕ
 verdictNumbers (report rows buffers records calls) = 0 ∷ rows ∷ buffers ∷ records ∷ calls ∷ []
 verdictNumbers (refusal n place) = n ∷ place ∷ 0 ∷ 0 ∷ 0 ∷ []
+
+-- A metadata record from its kind and its fields, each cut to its width; from any other kind a function record.
+unfoldable pub recordOf : ℕ → ℕ → ℕ → ℕ → Record
+recordOf kind a b c =
+    getD
+    (NewBuffer (a % 2 ^ 16)
+    ∷ EndOfBuffer
+    ∷ NewCpuId (a % 2 ^ 16) b
+    ∷ TscWrap a
+    ∷ WallTime a (b % 2 ^ 32)
+    ∷ CustomEvent (a % 2 ^ 32) b
+    ∷ CallArgument a
+    ∷ [])
+    kind
+    (Function (a % 2 ^ 8) (b % 2 ^ 32) (c % 2 ^ 32))
+
+-- 0 and the number of bytes written, or the refusal's number.
+abbrev pub writingNumbers : Writing → List ℕ
+writingNumbers (wrote size) = 0 ∷ size ∷ []
+writingNumbers (denied n) = n ∷ 0 ∷ []
 
 -- 0 twice where the log was scrubbed, or the refusal's number and its place.
 abbrev pub scrubbingNumbers : Scrubbing → List ℕ

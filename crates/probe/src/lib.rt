@@ -1,22 +1,25 @@
-// The reader, the walk, the replay and the scrubber on numbers and byte slices, for tests and benchmarks in other languages.
+// The reader, the writer, the walk, the replay and the scrubber on numbers and byte slices, for tests and benchmarks in other languages.
 // Each function answers one number, the `which`-th of its answer written as a list (specs/Numbers.antt),
 // and 0 past the list's end.
 mod list;
 
 ghost use mathlib.Core.Path.{_≡_};
-ghost use lib.ListN.{getD};
+ghost use lib.ListN.{length, getD};
 ghost use Rattle.fdr.specs.Header.{openedWithin, longest};
 ghost use Rattle.fdr.specs.Reading.{reading, eventAt};
 ghost use Rattle.fdr.specs.Walk.{next};
-ghost use Rattle.probe.specs.Numbers.{openingNumbers, readingNumbers, eventNumbers, steppingNumbers, positionOf, verdictNumbers, scrubbingNumbers};
+ghost use Rattle.fdr.specs.Writing.{written, outputAfter};
+ghost use Rattle.probe.specs.Numbers.{openingNumbers, readingNumbers, eventNumbers, steppingNumbers, positionOf, verdictNumbers, recordOf, writingNumbers, scrubbingNumbers};
 ghost use Rattle.replay.specs.Replay.{answer, tableAfter};
 ghost use Rattle.scrub.specs.Scrub.{scrubbing, bytesAfter};
 use list::answer_numbers;
 use list::opened_numbers;
 use list::position_of;
 use list::read_numbers;
+use list::record_of;
 use list::scrub_numbers;
 use list::step_numbers;
+use list::written_numbers;
 
 #[no_mangle]
 pub extern "C" fn probe_header(log: &[u8], which: u64) -> u64
@@ -82,6 +85,28 @@ pub extern "C" fn probe_replay(log: &[u8], table: &mut [u64], which: u64) -> u64
 {
     let numbers = answer_numbers(replay::replay(log, table));
     if which < 5 {
+        numbers[which as usize]
+    } else {
+        0
+    }
+}
+
+#[no_mangle]
+pub extern "C" fn probe_write(
+    kind: u64,
+    a: u64,
+    b: u64,
+    c: u64,
+    event: &[u8],
+    out: &mut [u8],
+    which: u64,
+) -> u64
+    ensures { λ r. ⌜ r ≡ getD (writingNumbers (written (recordOf kind a b c) (now (event .entry)) (length (now (out .entry))))) which 0 ⌝ }
+    ensures { λ r. ⌜ now (out .exit) ≡ outputAfter (recordOf kind a b c) (now (event .entry)) (now (out .entry)) ⌝ }
+{
+    let record = record_of(kind, a, b, c);
+    let numbers = written_numbers(fdr::writer::write_record(record, event, out));
+    if which < 2 {
         numbers[which as usize]
     } else {
         0

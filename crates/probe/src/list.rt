@@ -3,9 +3,10 @@ ghost use mathlib.Core.Path.{_≡_};
 ghost use Rattle.fdr.specs.Header.{openingOf};
 ghost use Rattle.fdr.specs.Reading.{readingOf};
 ghost use Rattle.fdr.specs.Walk.{steppingOf};
+ghost use Rattle.fdr.specs.Writing.{writingOf};
 ghost use Rattle.replay.specs.Replay.{verdictOf};
 ghost use Rattle.scrub.specs.Scrub.{scrubbingOf};
-ghost use Rattle.probe.specs.Numbers.{scrubbingNumbers, verdictNumbers, recordNumbers, openingNumbers, readingNumbers, steppingNumbers, stageNumber, threadNumber, stageOf, threadsOf, positionOf};
+ghost use Rattle.probe.specs.Numbers.{scrubbingNumbers, verdictNumbers, writingNumbers, recordOf, recordNumbers, openingNumbers, readingNumbers, steppingNumbers, stageNumber, threadNumber, stageOf, threadsOf, positionOf};
 use fdr::grammar::Stage;
 use fdr::grammar::Threads;
 use fdr::header::Opened;
@@ -13,6 +14,7 @@ use fdr::reader::Read;
 use fdr::record::Record;
 use fdr::walk::Position;
 use fdr::walk::Step;
+use fdr::writer::Written;
 use replay::Answer;
 
 fn record_numbers(record: Record) -> [u64; 4]
@@ -159,6 +161,34 @@ pub fn answer_numbers(answer: Answer) -> [u64; 5]
             open,
         } => [0, rows, buffers, records, open],
         Answer::Refused { refusal, place } => [refusal.number(), place, 0, 0, 0],
+    }
+}
+
+pub fn record_of(kind: u64, a: u64, b: u64, c: u64) -> Record
+    ensures { λ r. ⌜ r ≡ recordOf kind a b c ⌝ }
+{
+    match kind {
+        0 => Record::new_buffer((a % 65536) as u16),
+        1 => Record::end_of_buffer(),
+        2 => Record::new_cpu_id((a % 65536) as u16, b),
+        3 => Record::tsc_wrap(a),
+        4 => Record::wall_time(a, (b % 4294967296) as u32),
+        5 => Record::custom_event((a % 4294967296) as u32, b),
+        6 => Record::call_argument(a),
+        _ => Record::function(
+            (a % 256) as u8,
+            (b % 4294967296) as u32,
+            (c % 4294967296) as u32,
+        ),
+    }
+}
+
+pub fn written_numbers(written: Written) -> [u64; 2]
+    ensures { λ r. ⌜ r ≡ writingNumbers (writingOf written) ⌝ }
+{
+    match written {
+        Written::Wrote(size) => [0, size as u64],
+        Written::Refused(refusal) => [refusal.number(), 0],
     }
 }
 

@@ -1,8 +1,8 @@
 //! A second, independent reading of trace logs after Paper 01: the header's
-//! tests, the record reader, the walk from record to record with the grammar,
-//! replay with its table, the hidden bytes and the scrubber, and the comparison
-//! of two times. With it come generators of logs, sound and damaged, for
-//! comparing another implementation with this one.
+//! tests, the record reader, the record writer, the walk from record to record
+//! with the grammar, replay with its table, the hidden bytes and the scrubber,
+//! and the comparison of two times. With it come generators of logs, sound and
+//! damaged, for comparing another implementation with this one.
 //!
 //! Nothing here is quick or clever: each function follows one passage of the
 //! paper and names it.
@@ -20,3 +20,4 @@ pub mod record;
 pub mod replay;
 pub mod scrub;
 pub mod walk;
+pub mod writer;
