@@ -13,6 +13,8 @@ pub struct Counts {
     pub reads: [u64; 9],
     /// Steps from odd positions by refusal; index 0 counts all others.
     pub steps: [u64; 9],
+    /// The record writer's answers by refusal; index 0 counts records written.
+    pub writes: [u64; 17],
     /// Steps of walks from the start.
     pub walked: u64,
     /// Events of at least one byte.
@@ -46,6 +48,11 @@ impl Counts {
             println!("{name:<16}{logs:>10}{reads:>10}{:>14}", self.steps[number]);
         }
         println!();
+        println!("{:<16}{:>10}", "writer", "answers");
+        for number in [0, 6, 15, 16] {
+            println!("{number:<16}{:>10}", self.writes[number]);
+        }
+        println!();
         println!("{:<16}{:>10}", "walked records", self.walked);
         println!("{:<16}{:>10}", "events", self.events);
         println!("{:<16}{:>10}", "answers", self.answers);
@@ -62,6 +69,11 @@ impl Counts {
         for number in 1..9 {
             if self.walks[number] == 0 {
                 missing.push(format!("refusal {number} was never seen"));
+            }
+        }
+        for number in [0, 6, 15, 16] {
+            if self.writes[number] == 0 {
+                missing.push(format!("the writer never answered {number}"));
             }
         }
         missing

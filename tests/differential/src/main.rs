@@ -1,5 +1,5 @@
 //! Compares the proved reading of logs with the second one, on generated logs
-//! and on samples.
+//! and on samples, and the proved record writer with the second one.
 //!
 //! `differential [INPUTS] [--samples DIR]`
 
@@ -10,6 +10,7 @@ mod counts;
 mod numbers;
 #[allow(unsafe_code)]
 mod proved;
+mod writes;
 
 use compare::{Comparison, Difference};
 use counts::Counts;
@@ -113,6 +114,7 @@ fn run() -> Result<u64, String> {
     if let Some(folder) = &arguments.samples {
         samples(folder, &mut counts)?;
     }
+    writes::run(arguments.inputs, &mut counts)?;
     counts.print();
     let missing = counts.missing();
     if !missing.is_empty() {

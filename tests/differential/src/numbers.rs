@@ -6,6 +6,7 @@ use second::header;
 use second::reader::{self, Read};
 use second::record::Record;
 use second::walk::{self, Position, Stage, Step};
+use second::writer;
 
 /// Longest: accepted, two flags, frequency, buffer_size.
 pub type HeaderNumbers = [u64; 5 + 2];
@@ -13,6 +14,9 @@ pub type HeaderNumbers = [u64; 5 + 2];
 pub type ReadNumbers = [u64; 6 + 2];
 /// Longest: found, a position of five numbers, and a record of four.
 pub type NextNumbers = [u64; 10 + 2];
+
+/// Longest: accepted, and the number of bytes written.
+pub type WriteNumbers = [u64; 2 + 2];
 
 /// The first number where the walk is over.
 pub const OVER: u64 = 1000;
@@ -73,7 +77,7 @@ fn filled<const N: usize>(numbers: &[u64]) -> [u64; N] {
 }
 
 /// A record's numbers: its kind, or 7 for a function record, and its values.
-fn record(record: &Record) -> [u64; 4] {
+pub fn record(record: &Record) -> [u64; 4] {
     match *record {
         Record::Function { action, id, delta } => [7, action.into(), id.into(), delta.into()],
         Record::NewBuffer { thread } => [0, thread.into(), 0, 0],
@@ -142,4 +146,12 @@ pub fn next(step: &Step) -> NextNumbers {
 /// The second side's step at a position.
 pub fn step(log: &[u8], at: At) -> Step {
     walk::next(log, at.position())
+}
+
+/// The second side's answer, with what it writes in `out`.
+pub fn write(record: &Record, event: &[u8], out: &mut [u8]) -> WriteNumbers {
+    match writer::write(record, event, out) {
+        Ok(size) => filled(&[0, size as u64]),
+        Err(number) => filled(&[number.into()]),
+    }
 }

@@ -16,10 +16,21 @@ mod c {
             thread: u64,
             which: u64,
         ) -> u64;
+        pub fn probe_write(
+            kind: u64,
+            a: u64,
+            b: u64,
+            c: u64,
+            event: *const u8,
+            event_len: usize,
+            out: *mut u8,
+            out_len: usize,
+            which: u64,
+        ) -> u64;
     }
 }
 
-use crate::numbers::{At, HeaderNumbers, NextNumbers, ReadNumbers};
+use crate::numbers::{At, HeaderNumbers, NextNumbers, ReadNumbers, WriteNumbers};
 
 /// All numbers of an answer, then the one behind them and the very last one,
 /// which are both past its end.
@@ -61,4 +72,17 @@ pub fn next(log: &[u8], at: At) -> NextNumbers {
             which,
         )
     })
+}
+
+/// A record from its numbers. Each number of the answer is asked for in a copy
+/// of `out`, and the last call writes to `out` itself.
+pub fn write([kind, a, b, c]: [u64; 4], event: &[u8], out: &mut [u8]) -> WriteNumbers {
+    let call = |out: &mut [u8], which: u64| unsafe {
+        let (given, lent) = (event.as_ptr(), out.as_mut_ptr());
+        c::probe_write(kind, a, b, c, given, event.len(), lent, out.len(), which)
+    };
+    let before = out.to_vec();
+    let numbers = all(|which| call(&mut before.clone(), which));
+    call(out, 0);
+    numbers
 }
