@@ -1,9 +1,11 @@
 // The call stack and the clock, by value: each record's method takes the state and hands back the next.
 ghost use mathlib.Core.Path.{_≡_};
-ghost use Prim.Native.Nat.{ℕ, _+_, _*_, _^_, _<_, _≤_};
+ghost use Prim.Native.Nat.{_+_, _*_, _^_, _<_, _≤_};
 ghost use lib.ListN.{length};
-ghost use Rattle.replay.specs.Step.{left, moved, atClock};
-ghost use Rattle.replay.specs.View.{RowsBelow, Bounded, Nearest, Abandoned, Counting, Ready, olderOf, viewed, Entered, Acted, After, Fresh, pushed, popped, stayed, emptied};
+ghost use Rattle.replay.specs.Step.{moved};
+ghost use Rattle.replay.specs.Replay.{verdictOf, report};
+ghost use Rattle.replay.specs.View.{RowsBelow, Bounded, Nearest, Abandoned, Counting, Ready, olderOf, viewed, Entered, Left, Acted, After, Fresh, pushed, popped, stayed, emptied};
+use crate::Answer;
 use crate::table::ABANDONED;
 use crate::table::ENTERED;
 use crate::table::LARGEST;
@@ -27,11 +29,11 @@ pub struct Calls {
     pub since: [u64; 8],
     pub row: [u16; 8],
     pub recent: usize,
-    pub older: usize,
+    pub below: usize,
     clock: u64,
-    pub rows: usize,
-    pub records: u64,
-    pub buffers: u64,
+    rows: usize,
+    records: u64,
+    buffers: u64,
 }
 
 // What a record does to the open calls, once it is counted in the table: it opens one, closes those
@@ -44,7 +46,7 @@ pub enum Act {
     },
     Pop {
         recent: usize,
-        older: usize,
+        below: usize,
         clock: u64,
     },
     Stay {
@@ -91,7 +93,7 @@ impl Calls {
             since: [0u64; 8],
             row: [0u16; 8],
             recent: 0,
-            older: 0,
+            below: 0,
             clock: 0,
             rows: 0,
             records: 0,
@@ -113,12 +115,12 @@ impl Calls {
         self
     }
 
-    pub fn pop(mut self, recent: usize, older: usize, clock: u64) -> Self
+    pub fn pop(mut self, recent: usize, below: usize, clock: u64) -> Self
         requires { ⌜ self .records < 2 ^ 24 ⌝ }
-        ensures { λ r. ⌜ r ≡ popped self recent older clock ⌝ }
+        ensures { λ r. ⌜ r ≡ popped self recent below clock ⌝ }
     {
         self.recent = recent;
-        self.older = older;
+        self.below = below;
         self.clock = clock;
         self.records = self.records + 1;
         self
@@ -136,12 +138,26 @@ impl Calls {
 
     // The newest calls are now among the older ones.
     pub fn emptied(mut self) -> Self
-        requires { ⌜ self .older + self .recent ≤ 256 ⌝ }
+        requires { ⌜ self .below + self .recent ≤ 256 ⌝ }
         ensures { λ r. ⌜ r ≡ emptied self ⌝ }
     {
-        self.older = self.older + self.recent;
+        self.below = self.below + self.recent;
         self.recent = 0;
         self
+    }
+
+    // What the log came to.
+    pub fn report(self) -> Answer
+        requires { ⌜ self .recent + self .below ≤ 256 ⌝ }
+        ensures { λ r. ⌜ verdictOf r ≡ report (self .rows) (self .buffers) (self .records) (self .recent + self .below) ⌝ }
+    {
+        let open = self.recent + self.below;
+        Answer::Report {
+            rows: self.rows as u64,
+            buffers: self.buffers,
+            records: self.records,
+            open: open as u64,
+        }
     }
 
     // Tests 11 and 12, and counts an entry at a clock.
@@ -149,7 +165,7 @@ impl Calls {
         requires { ⌜ Counting self (now table) ⌝ }
         ensures { λ r. ⌜ Entered self clock id (now (table .entry)) r (now (table .exit)) ⌝ }
     {
-        let depth = self.recent + self.older;
+        let depth = self.recent + self.below;
         let rows = self.rows;
         if DEEPEST <= depth {
             return Act::Refuse(Refusal::Depth);
@@ -185,21 +201,21 @@ impl Calls {
         since: &'a [u64; 256],
     ) -> Act
         requires { ⌜ (Ready self (olderOf (now row) (now since)) (now table)) × Nearest (self .row) (self .recent) (now table) id 0 ⌝ }
-        ensures { λ r. ⌜ Acted self (olderOf (now (row .entry)) (now (since .entry))) (left (atClock (viewed self (olderOf (now (row .entry)) (now (since .entry))) (now (table .entry))) clock) id) (now (table .entry)) r (now (table .exit)) ⌝ }
+        ensures { λ r. ⌜ Left self (olderOf (now (row .entry)) (now (since .entry))) clock id (now (table .entry)) r (now (table .exit)) ⌝ }
     {
         let recent = self.recent;
-        let older = self.older;
-        let k = find_call(row, older, table, id);
+        let below = self.below;
+        let k = find_call(row, below, table, id);
         if k == 0 {
             return Act::Refuse(Refusal::NoOpenCall);
         }
         abandon(&self.row, recent, 0, table);
-        abandon(row, older, k, table);
+        abandon(row, below, k, table);
         let j = k - 1;
         if close(table, row[j], since[j], clock) {
             return Act::Pop {
                 recent: 0,
-                older: j,
+                below: j,
                 clock,
             };
         }
@@ -216,10 +232,10 @@ impl Calls {
         since: &'a [u64; 256],
     ) -> Act
         requires { ⌜ Ready self (olderOf (now row) (now since)) (now table) ⌝ }
-        ensures { λ r. ⌜ Acted self (olderOf (now (row .entry)) (now (since .entry))) (left (atClock (viewed self (olderOf (now (row .entry)) (now (since .entry))) (now (table .entry))) clock) id) (now (table .entry)) r (now (table .exit)) ⌝ }
+        ensures { λ r. ⌜ Left self (olderOf (now (row .entry)) (now (since .entry))) clock id (now (table .entry)) r (now (table .exit)) ⌝ }
     {
         let recent = self.recent;
-        let older = self.older;
+        let below = self.below;
         let k = find_call(&self.row, recent, table, id);
         if k == 0 {
             return self.leave_older(table, id, clock, row, since);
@@ -229,7 +245,7 @@ impl Calls {
         if close(table, self.row[j], self.since[j], clock) {
             return Act::Pop {
                 recent: j,
-                older,
+                below,
                 clock,
             };
         }

@@ -1,6 +1,4 @@
 // The open calls below the newest ones. They change where the newest ones are full, and with no other record.
-ghost use mathlib.Core.Path.{_≡_};
-ghost use Prim.Native.Nat.{_+_, _≤_};
 ghost use Rattle.replay.specs.View.{Wide, Full, Kept};
 use crate::calls::Calls;
 use crate::calls::MOST_RECENT;
@@ -25,7 +23,7 @@ impl Older {
         requires { ⌜ Wide self × Full calls ⌝ }
         ensures { λ r. ⌜ Kept calls self r ⌝ }
     {
-        let below = calls.older;
+        let below = calls.below;
         let mut k: usize = 0;
         while k < MOST_RECENT {
             let i = below + k;

@@ -1,7 +1,7 @@
 // The lent table: rows of six numbers, at row times six.
 ghost use mathlib.Core.Path.{_≡_};
 ghost use mathlib.Core.List.{[]};
-ghost use Prim.Native.Nat.{ℕ, _+_, _*_, _^_, _<_, _≤_};
+ghost use Prim.Native.Nat.{_+_, _*_, _^_, _<_, _≤_};
 ghost use lib.ListN.{length, getD, set};
 ghost use Rattle.replay.specs.Row.{tableOf, rowOf};
 ghost use Rattle.replay.specs.View.{rowsIn, Bounded, Closed};

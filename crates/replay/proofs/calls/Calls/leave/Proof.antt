@@ -6,7 +6,7 @@ use Rattle.replay.specs.declared.older.Older.{Older}
 use Rattle.replay.specs.View.{Nearest, olderOf}
 use Rattle.replay.proofs.Rows.{bounded-more}
 use mathlib.Core.List.{List}
-use Prim.Native.Nat.{ℕ, _+_, _^_}
+use Prim.Native.Nat.{ℕ, _^_}
 use native.Mathlib.Omega.{arith}
 use mathlib.Core.Path.{refl, subst}
 use borrow.Author.Needs.{needs}

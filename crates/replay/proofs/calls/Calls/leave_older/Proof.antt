@@ -1,5 +1,5 @@
 -- `replay::calls::Calls::leave_older` meets its contract: each answer by the law of an exit that applies. Assumes nothing.
-use Rattle.replay.proofs.Leaving.{Shut, leave-none, shut-older, can-close, acted-popped, acted-refused}
+use Rattle.replay.proofs.Leaving.{leave-none, shut-older, can-close, acted-popped, acted-refused}
 use Rattle.replay.proofs.Stepping.{counted, ready}
 use Rattle.replay.specs.declared.calls.Calls.{Calls}
 use Rattle.replay.specs.declared.older.Older.{Older}

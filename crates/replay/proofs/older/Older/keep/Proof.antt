@@ -19,7 +19,7 @@ abbrev μ-loop : tie.MeasureT-loop
 
 loop-holds : tie.Need-loop-holds Inv-loop μ-loop
 unfolding callsIn
-loop-holds c = let z : c .args .t2 .older + 0 ≡ c .args .t2 .older = omega arith in
+loop-holds c = let z : c .args .t2 .below + 0 ≡ c .args .t2 .below = omega arith in
     (omega arith, c .pre .0, ap (λ (k : ℕ). callsIn k (c .args .t1 .row) (c .args .t1 .since)) z, λ n b lo j lj. lo j (omega arith))
 
 add-i : tie.Need-add-i Inv-loop μ-loop
@@ -58,10 +58,10 @@ loop-less c = omega arith
 loop-again : tie.Need-loop-again Inv-loop μ-loop
 loop-again c = let a = c .before .before .before .before in
     let l = c .before .before .before .loop in
-    let d : ℕ = a .args .t2 .older in
+    let d : ℕ = a .args .t2 .below in
     let z : d + (l .k + 1) ≡ d + l .k + 1 = omega arith in
-    let lr : d + l .k < length (l .self .row) = omega (arith, a .pre .1 .older, l .inv .1 .0) in
-    let ls : d + l .k < length (l .self .since) = omega (arith, a .pre .1 .older, l .inv .1 .1) in
+    let lr : d + l .k < length (l .self .row) = omega (arith, a .pre .1 .deep, l .inv .1 .0) in
+    let ls : d + l .k < length (l .self .since) = omega (arith, a .pre .1 .deep, l .inv .1 .1) in
     let x : ℕ = getD (a .args .t2 .row) (l .k) 0 in (
       omega arith,
       (length-set (l .self .row) (d + l .k) x ∙ l .inv .1 .0, length-set (l .self .since) (d + l .k) (getD (a .args .t2 .since) (l .k) 0) ∙ l .inv .1 .1),
@@ -72,7 +72,7 @@ loop-again c = let a = c .before .before .before .before in
 returns : tie.Need-returns Inv-loop μ-loop
 returns c = let a = c .before .before in
     let l = c .before .loop in
-    let d : ℕ = a .args .t2 .older in
+    let d : ℕ = a .args .t2 .below in
     let e : l .k ≡ 8 = omega arith in
     record {
       wide = l .inv .1;
