@@ -22,8 +22,8 @@ const DEEPEST: usize = 256;
 // The newest calls that a state holds at most.
 pub const MOST_RECENT: usize = 8;
 
-// The newest open calls, each by its row and its clock at entry, the number of older ones below them,
-// which are kept apart so that little is copied for a record, and the numbers of rows, records and
+// The newest open calls, each by its row and its clock at entry; the number of older ones below them,
+// which stand apart (`Older`), so that a record copies little; and the numbers of rows, records and
 // buffers so far.
 pub struct Calls {
     pub since: [u64; 8],
@@ -37,7 +37,7 @@ pub struct Calls {
 }
 
 // What a record does to the open calls, once it is counted in the table: it opens one, closes those
-// down to a depth, leaves them as they are, or is refused.
+// down to so many of the newest and so many below, leaves them as they are, or is refused.
 pub enum Act {
     Push {
         row: u16,
@@ -136,7 +136,7 @@ impl Calls {
         self
     }
 
-    // The newest calls are now among the older ones.
+    // The state once the newest calls are among the older ones.
     pub fn emptied(mut self) -> Self
         requires { ⌜ self .below + self .recent ≤ 256 ⌝ }
         ensures { λ r. ⌜ r ≡ emptied self ⌝ }
@@ -191,7 +191,7 @@ impl Calls {
         }
     }
 
-    // Counts an exit at a clock from one of the older calls; the newest ones are all abandoned.
+    // Tests 10 and 13, and counts an exit where no newest call is of the id: those are all abandoned.
     fn leave_older<'a>(
         self,
         table: &mut [u64],
@@ -279,8 +279,8 @@ impl Calls {
         self.leave(table, id, now, row, since)
     }
 
-    // What one record does. Counts and sums go to the table at once; the calls are the caller's to change,
-    // by the method of the act, so that only an entry copies them.
+    // What one record does, above the older calls with these rows and clocks. Counts and sums go to the
+    // table at once; the state is the caller's to change, by the method of the act.
     pub fn act<'a>(
         self,
         table: &mut [u64],
