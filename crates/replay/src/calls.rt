@@ -1,49 +1,64 @@
 // The call stack and the clock, by value: each record's method takes the state and hands back the next.
 ghost use mathlib.Core.Path.{_≡_};
-ghost use Prim.Native.Nat.{ℕ, _+_, _*_, _^_, _<_, _≤_};
+ghost use Prim.Native.Nat.{_+_, _*_, _^_, _<_, _≤_};
 ghost use lib.ListN.{length};
-ghost use Rattle.replay.specs.Step.{entered, left, moved, atClock};
-ghost use Rattle.replay.specs.View.{RowsBelow, Bounded, Nearest, Abandoned, Sound, viewed, Acted, After, Fresh, pushed, popped, stayed};
+ghost use Rattle.replay.specs.Step.{moved};
+ghost use Rattle.replay.specs.Replay.{verdictOf, report};
+ghost use Rattle.replay.specs.View.{RowsBelow, Bounded, Nearest, Abandoned, Counting, Ready, olderOf, viewed, Entered, Left, Acted, After, Fresh, pushed, popped, stayed, emptied};
+use crate::Answer;
 use crate::table::ABANDONED;
-use crate::table::BACKWARD;
-use crate::table::CLOSED;
 use crate::table::ENTERED;
+use crate::table::LARGEST;
 use crate::table::MOST_ROWS;
-use crate::table::TICKS;
 use crate::table::WIDTH;
 use crate::table::bump;
+use crate::table::close;
 use crate::table::find_row;
 use fdr::record::Record;
 use fdr::refusal::Refusal;
 
 const DEEPEST: usize = 256;
 
-const LARGEST: u64 = 18446744073709551615;
+// The newest calls that a state holds at most.
+pub const MOST_RECENT: usize = 8;
 
-// The open calls, each by its row and its clock at entry, and the numbers of rows, records and buffers
-// so far.
+// The newest open calls, each by its row and its clock at entry; the number of older ones below them,
+// which stand apart (`Older`), so that a record copies little; and the numbers of rows, records and
+// buffers so far.
 pub struct Calls {
-    since: [u64; 256],
-    row: [u16; 256],
-    pub depth: usize,
+    pub since: [u64; 8],
+    pub row: [u16; 8],
+    pub recent: usize,
+    pub below: usize,
     clock: u64,
-    pub rows: usize,
-    pub records: u64,
-    pub buffers: u64,
+    rows: usize,
+    records: u64,
+    buffers: u64,
 }
 
 // What a record does to the open calls, once it is counted in the table: it opens one, closes those
-// down to a depth, leaves them as they are, or is refused.
+// down to so many of the newest and so many below, leaves them as they are, or is refused.
 pub enum Act {
-    Push { row: u16, rows: usize, clock: u64 },
-    Pop { depth: usize, clock: u64 },
-    Stay { clock: u64, more: u64 },
+    Push {
+        row: u16,
+        rows: usize,
+        clock: u64,
+    },
+    Pop {
+        recent: usize,
+        below: usize,
+        clock: u64,
+    },
+    Stay {
+        clock: u64,
+        more: u64,
+    },
     Refuse(Refusal),
 }
 
 // The depth of the nearest open call of an id, or 0.
-fn find_call(row: &[u16; 256], depth: usize, table: &[u64], id: u64) -> usize
-    requires { ⌜ (depth ≤ 256) × RowsBelow depth (now row) 1024 × (6144 ≤ length (now table)) ⌝ }
+fn find_call(row: &[u16], depth: usize, table: &[u64], id: u64) -> usize
+    requires { ⌜ (depth ≤ length (now row)) × RowsBelow depth (now row) 1024 × (6144 ≤ length (now table)) ⌝ }
     ensures { λ r. ⌜ Nearest (now (row .entry)) depth (now (table .entry)) id r ⌝ }
 {
     let mut k: usize = depth;
@@ -58,8 +73,8 @@ fn find_call(row: &[u16; 256], depth: usize, table: &[u64], id: u64) -> usize
 }
 
 // Counts the calls above a depth as abandoned.
-fn abandon(row: &[u16; 256], depth: usize, keep: usize, table: &mut [u64])
-    requires { ⌜ (keep ≤ depth) × (depth ≤ 256) × RowsBelow depth (now row) 1024 × (6144 ≤ length (now table)) × Bounded (now table) (2 ^ 40) ⌝ }
+fn abandon(row: &[u16], depth: usize, keep: usize, table: &mut [u64])
+    requires { ⌜ (keep ≤ depth) × (depth ≤ 256) × (depth ≤ length (now row)) × RowsBelow depth (now row) 1024 × (6144 ≤ length (now table)) × Bounded (now table) (2 ^ 40) ⌝ }
     ensures { λ _. ⌜ Abandoned (now (row .entry)) depth keep (now (table .entry)) (now (table .exit)) ⌝ }
 {
     let mut k: usize = depth;
@@ -75,9 +90,10 @@ impl Calls {
         ensures { λ r. ⌜ Fresh r ⌝ }
     {
         Self {
-            since: [0u64; 256],
-            row: [0u16; 256],
-            depth: 0,
+            since: [0u64; 8],
+            row: [0u16; 8],
+            recent: 0,
+            below: 0,
             clock: 0,
             rows: 0,
             records: 0,
@@ -86,24 +102,25 @@ impl Calls {
     }
 
     pub fn push(mut self, row: u16, rows: usize, clock: u64) -> Self
-        requires { ⌜ (self .depth < 256) × (self .records < 2 ^ 24) ⌝ }
+        requires { ⌜ (self .recent < 8) × (self .records < 2 ^ 24) ⌝ }
         ensures { λ r. ⌜ r ≡ pushed self row rows clock ⌝ }
     {
-        let depth = self.depth;
-        self.since[depth] = clock;
-        self.row[depth] = row;
-        self.depth = depth + 1;
+        let recent = self.recent;
+        self.since[recent] = clock;
+        self.row[recent] = row;
+        self.recent = recent + 1;
         self.clock = clock;
         self.rows = rows;
         self.records = self.records + 1;
         self
     }
 
-    pub fn pop(mut self, depth: usize, clock: u64) -> Self
+    pub fn pop(mut self, recent: usize, below: usize, clock: u64) -> Self
         requires { ⌜ self .records < 2 ^ 24 ⌝ }
-        ensures { λ r. ⌜ r ≡ popped self depth clock ⌝ }
+        ensures { λ r. ⌜ r ≡ popped self recent below clock ⌝ }
     {
-        self.depth = depth;
+        self.recent = recent;
+        self.below = below;
         self.clock = clock;
         self.records = self.records + 1;
         self
@@ -119,12 +136,36 @@ impl Calls {
         self
     }
 
+    // The state once the newest calls are among the older ones.
+    pub fn emptied(mut self) -> Self
+        requires { ⌜ self .below + self .recent ≤ 256 ⌝ }
+        ensures { λ r. ⌜ r ≡ emptied self ⌝ }
+    {
+        self.below = self.below + self.recent;
+        self.recent = 0;
+        self
+    }
+
+    // What the log came to.
+    pub fn report(self) -> Answer
+        requires { ⌜ self .recent + self .below ≤ 256 ⌝ }
+        ensures { λ r. ⌜ verdictOf r ≡ report (self .rows) (self .buffers) (self .records) (self .recent + self .below) ⌝ }
+    {
+        let open = self.recent + self.below;
+        Answer::Report {
+            rows: self.rows as u64,
+            buffers: self.buffers,
+            records: self.records,
+            open: open as u64,
+        }
+    }
+
     // Tests 11 and 12, and counts an entry at a clock.
     fn enter(self, table: &mut [u64], id: u64, clock: u64) -> Act
-        requires { ⌜ Sound 0 self (now table) × (self .records < 2 ^ 24) ⌝ }
-        ensures { λ r. ⌜ Acted self (entered (atClock (viewed self (now (table .entry))) clock) id) (now (table .entry)) r (now (table .exit)) ⌝ }
+        requires { ⌜ Counting self (now table) ⌝ }
+        ensures { λ r. ⌜ Entered self clock id (now (table .entry)) r (now (table .exit)) ⌝ }
     {
-        let depth = self.depth;
+        let depth = self.recent + self.below;
         let rows = self.rows;
         if DEEPEST <= depth {
             return Act::Refuse(Refusal::Depth);
@@ -150,38 +191,79 @@ impl Calls {
         }
     }
 
-    // Tests 10 and 13, and counts an exit at a clock.
-    fn leave(self, table: &mut [u64], id: u64, clock: u64) -> Act
-        requires { ⌜ Sound 0 self (now table) × (self .records < 2 ^ 24) ⌝ }
-        ensures { λ r. ⌜ Acted self (left (atClock (viewed self (now (table .entry))) clock) id) (now (table .entry)) r (now (table .exit)) ⌝ }
+    // Tests 10 and 13, and counts an exit where no newest call is of the id: those are all abandoned.
+    fn leave_older<'a>(
+        self,
+        table: &mut [u64],
+        id: u64,
+        clock: u64,
+        row: &'a [u16; 256],
+        since: &'a [u64; 256],
+    ) -> Act
+        requires { ⌜ (Ready self (olderOf (now row) (now since)) (now table)) × Nearest (self .row) (self .recent) (now table) id 0 ⌝ }
+        ensures { λ r. ⌜ Left self (olderOf (now (row .entry)) (now (since .entry))) clock id (now (table .entry)) r (now (table .exit)) ⌝ }
     {
-        let depth = self.depth;
-        let k = find_call(&self.row, depth, table, id);
+        let recent = self.recent;
+        let below = self.below;
+        let k = find_call(row, below, table, id);
         if k == 0 {
             return Act::Refuse(Refusal::NoOpenCall);
         }
-        abandon(&self.row, depth, k, table);
+        abandon(&self.row, recent, 0, table);
+        abandon(row, below, k, table);
         let j = k - 1;
-        let row = self.row[j] as usize * WIDTH;
-        let since = self.since[j];
-        bump(table, row + CLOSED);
-        if clock < since {
-            bump(table, row + BACKWARD);
-            return Act::Pop { depth: j, clock };
+        if close(table, row[j], since[j], clock) {
+            return Act::Pop {
+                recent: 0,
+                below: j,
+                clock,
+            };
         }
-        let ticks = table[row + TICKS];
-        let more = clock - since;
-        if LARGEST - ticks < more {
-            return Act::Refuse(Refusal::Ticks);
+        Act::Refuse(Refusal::Ticks)
+    }
+
+    // Tests 10 and 13, and counts an exit at a clock.
+    fn leave<'a>(
+        self,
+        table: &mut [u64],
+        id: u64,
+        clock: u64,
+        row: &'a [u16; 256],
+        since: &'a [u64; 256],
+    ) -> Act
+        requires { ⌜ Ready self (olderOf (now row) (now since)) (now table) ⌝ }
+        ensures { λ r. ⌜ Left self (olderOf (now (row .entry)) (now (since .entry))) clock id (now (table .entry)) r (now (table .exit)) ⌝ }
+    {
+        let recent = self.recent;
+        let below = self.below;
+        let k = find_call(&self.row, recent, table, id);
+        if k == 0 {
+            return self.leave_older(table, id, clock, row, since);
         }
-        table[row + TICKS] = ticks + more;
-        Act::Pop { depth: j, clock }
+        abandon(&self.row, recent, k, table);
+        let j = k - 1;
+        if close(table, self.row[j], self.since[j], clock) {
+            return Act::Pop {
+                recent: j,
+                below,
+                clock,
+            };
+        }
+        Act::Refuse(Refusal::Ticks)
     }
 
     // Test 9, and the call that a function record opens or closes.
-    fn call(self, table: &mut [u64], action: u8, id: u64, delta: u64) -> Act
-        requires { ⌜ Sound 0 self (now table) × (self .records < 2 ^ 24) ⌝ }
-        ensures { λ r. ⌜ Acted self (moved (viewed self (now (table .entry))) action id delta) (now (table .entry)) r (now (table .exit)) ⌝ }
+    fn call<'a>(
+        self,
+        table: &mut [u64],
+        action: u8,
+        id: u64,
+        delta: u64,
+        row: &'a [u16; 256],
+        since: &'a [u64; 256],
+    ) -> Act
+        requires { ⌜ Ready self (olderOf (now row) (now since)) (now table) ⌝ }
+        ensures { λ r. ⌜ Acted self (olderOf (now (row .entry)) (now (since .entry))) (moved (viewed self (olderOf (now (row .entry)) (now (since .entry))) (now (table .entry))) action id delta) (now (table .entry)) r (now (table .exit)) ⌝ }
     {
         let clock = self.clock;
         if LARGEST - delta < clock {
@@ -194,19 +276,25 @@ impl Calls {
         if action == Record::ENTRY_ARGS {
             return self.enter(table, id, now);
         }
-        self.leave(table, id, now)
+        self.leave(table, id, now, row, since)
     }
 
-    // What one record does. Counts and sums go to the table at once; the calls are the caller's to change,
-    // by the method of the act, so that only an entry copies them.
-    pub fn act(self, table: &mut [u64], record: Record) -> Act
-        requires { ⌜ Sound 0 self (now table) × (self .records < 2 ^ 24) ⌝ }
-        ensures { λ r. ⌜ After self «record» (now (table .entry)) r (now (table .exit)) ⌝ }
+    // What one record does, above the older calls with these rows and clocks. Counts and sums go to the
+    // table at once; the state is the caller's to change, by the method of the act.
+    pub fn act<'a>(
+        self,
+        table: &mut [u64],
+        record: Record,
+        row: &'a [u16; 256],
+        since: &'a [u64; 256],
+    ) -> Act
+        requires { ⌜ Ready self (olderOf (now row) (now since)) (now table) ⌝ }
+        ensures { λ r. ⌜ After self (olderOf (now (row .entry)) (now (since .entry))) «record» (now (table .entry)) r (now (table .exit)) ⌝ }
     {
         let clock = self.clock;
         match record {
             Record::Function { action, id, delta } => {
-                self.call(table, action, id as u64, delta as u64)
+                self.call(table, action, id as u64, delta as u64, row, since)
             }
             Record::NewCpuId { cpu: _, tsc } => Act::Stay {
                 clock: tsc,

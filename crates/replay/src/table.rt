@@ -1,25 +1,28 @@
 // The lent table: rows of six numbers, at row times six.
 ghost use mathlib.Core.Path.{_≡_};
 ghost use mathlib.Core.List.{[]};
-ghost use Prim.Native.Nat.{ℕ, _+_, _*_, _^_, _<_, _≤_};
+ghost use Prim.Native.Nat.{_+_, _*_, _^_, _<_, _≤_};
 ghost use lib.ListN.{length, getD, set};
 ghost use Rattle.replay.specs.Row.{tableOf, rowOf};
-ghost use Rattle.replay.specs.View.{rowsIn};
+ghost use Rattle.replay.specs.View.{rowsIn, Bounded, Closed};
 
 // The numbers of a row, and their columns: id, entered, closed, backward, abandoned, ticks.
 pub const WIDTH: usize = 6;
 
 pub const ENTERED: usize = 1;
 
-pub const CLOSED: usize = 2;
+const CLOSED: usize = 2;
 
-pub const BACKWARD: usize = 3;
+const BACKWARD: usize = 3;
 
 pub const ABANDONED: usize = 4;
 
-pub const TICKS: usize = 5;
+const TICKS: usize = 5;
 
 pub const MOST_ROWS: usize = 1024;
+
+// The largest number, of ticks and of the clock.
+pub const LARGEST: u64 = 18446744073709551615;
 
 // The numbers of the table that are written.
 pub const CELLS: usize = 6144;
@@ -55,4 +58,24 @@ pub fn bump(table: &mut [u64], i: usize)
     ensures { λ _. ⌜ now (table .exit) ≡ set (now (table .entry)) i (getD (now (table .entry)) i 0 + 1) ⌝ }
 {
     table[i] = table[i] + 1;
+}
+
+// Counts a call as closed at a clock. Test 13: the answer says whether the ticks of its row stay below 2^64.
+pub fn close(table: &mut [u64], row: u16, since: u64, clock: u64) -> bool
+    requires { ⌜ (row < 1024) × (6144 ≤ length (now table)) × Bounded (now table) (2 ^ 41) ⌝ }
+    ensures { λ r. ⌜ Closed row since clock (now (table .entry)) r (now (table .exit)) ⌝ }
+{
+    let at = row as usize * WIDTH;
+    bump(table, at + CLOSED);
+    if clock < since {
+        bump(table, at + BACKWARD);
+        return true;
+    }
+    let ticks = table[at + TICKS];
+    let more = clock - since;
+    if LARGEST - ticks < more {
+        return false;
+    }
+    table[at + TICKS] = ticks + more;
+    true
 }

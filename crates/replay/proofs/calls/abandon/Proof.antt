@@ -32,32 +32,32 @@ sub-k c = omega arith
 mul-r : tie.Need-mul-r Inv-loop μ-loop
 mul-r c = omega arith
 
-element-copy-out-r : tie.Need-element-copy-out-r Inv-loop μ-loop
-element-copy-out-r c = omega arith
+shared-slice-read-r : tie.Need-shared-slice-read-r Inv-loop μ-loop
+shared-slice-read-r c = omega arith
 
 cast-r : tie.Need-cast-r Inv-loop μ-loop
-cast-r c = let k = c .before .before .loop .k in omega (arith, c .before .before .before .before .pre .2 (k - 1) (omega arith))
+cast-r c = let k = c .before .before .loop .k in omega (arith, c .before .before .before .before .before .pre .3 (k - 1) (omega arith))
 
 mul-bump : tie.Need-mul-bump Inv-loop μ-loop
-mul-bump c = let k = c .before .before .before .loop .k in omega (arith, c .before .before .before .before .before .pre .2 (k - 1) (omega arith))
+mul-bump c = let k = c .before .before .before .loop .k in omega (arith, c .before .before .before .before .before .before .pre .3 (k - 1) (omega arith))
 
 add-bump : tie.Need-add-bump Inv-loop μ-loop
-add-bump c = let k = c .before .before .before .loop .k in omega (arith, c .before .before .before .before .before .pre .2 (k - 1) (omega arith))
+add-bump c = let k = c .before .before .before .loop .k in omega (arith, c .before .before .before .before .before .before .pre .3 (k - 1) (omega arith))
 
 bump-requires : tie.Need-bump-requires Inv-loop μ-loop
-bump-requires c κs = let s = c .before .before .before .before .before in
+bump-requires c κs = let s = c .before .before .before .before .before .before in
     let l = c .before .before .before .loop in
-    let r : getD (s .args .row .now) (l .k - 1) 0 < 1024 = s .pre .2 (l .k - 1) (omega arith) in
-    (omega arith, omega (arith, l .inv .5 (2 ^ 40) (s .pre .4) (getD (s .args .row .now) (l .k - 1) 0 * width + 4) (omega arith) (omega arith) (omega arith)))
+    let r : getD (s .args .row .now) (l .k - 1) 0 < 1024 = s .pre .3 (l .k - 1) (omega arith) in
+    (omega arith, omega (arith, l .inv .5 (2 ^ 40) (s .pre .5) (getD (s .args .row .now) (l .k - 1) 0 * width + 4) (omega arith) (omega arith) (omega arith)))
 
 loop-less : tie.Need-loop-less Inv-loop μ-loop
 loop-less c = omega arith
 
 loop-again : tie.Need-loop-again Inv-loop μ-loop
-loop-again c = let s = c .before .before .before .before .before .before .before .before in
+loop-again c = let s = c .before .before .before .before .before .before .before .before .before in
     let l = c .before .before .before .before .before .before .loop in
     let e = c .before .before .bump .ensures in
-    let r : getD (s .args .row .now) (l .k - 1) 0 < 1024 = s .pre .2 (l .k - 1) (omega arith) in
+    let r : getD (s .args .row .now) (l .k - 1) 0 < 1024 = s .pre .3 (l .k - 1) (omega arith) in
     let i : ℕ = getD (s .args .row .now) (l .k - 1) 0 * width + 4 in (
       omega arith,
       omega arith,
@@ -74,7 +74,7 @@ same-length c = c .before .loop .inv .2
 
 returns : tie.Need-returns Inv-loop μ-loop
 unfolding abandonAll
-returns c = let s = c .before .before .before in
+returns c = let s = c .before .before .before .before in
     let l = c .before .loop in
     let z : l .k - s .args .keep ≡ 0 = omega arith in
     record {
@@ -93,7 +93,7 @@ abandon-spec =
     loop-holds
     sub-k
     mul-r
-    element-copy-out-r
+    shared-slice-read-r
     cast-r
     mul-bump
     add-bump

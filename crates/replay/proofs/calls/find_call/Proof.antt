@@ -24,8 +24,8 @@ sub-r c = omega arith
 mul-r : tie.Need-mul-r Inv-loop μ-loop
 mul-r c = omega arith
 
-element-copy-out-r : tie.Need-element-copy-out-r Inv-loop μ-loop
-element-copy-out-r c = omega arith
+shared-slice-read-r : tie.Need-shared-slice-read-r Inv-loop μ-loop
+shared-slice-read-r c = omega arith
 
 cast-r : tie.Need-cast-r Inv-loop μ-loop
 cast-r c = let k = c .before .before .loop .k in omega (arith, c .before .before .before .pre .1 (k - 1) (omega arith))
@@ -68,7 +68,7 @@ find-call-spec =
     loop-holds
     sub-r
     mul-r
-    element-copy-out-r
+    shared-slice-read-r
     cast-r
     mul-if1
     mul-if1-2

@@ -1,9 +1,11 @@
 -- `replay::calls::Calls::act` meets its contract: record by record. Assumes nothing.
 use Rattle.replay.proofs.Stepping.{after-stay, no-buffer, one-buffer, not-zero, idle, to-clock, to-wrap, to-call}
-use Rattle.replay.specs.View.{viewed}
+use Rattle.replay.specs.View.{olderOf, viewed}
 use Rattle.fdr.proofs.Records.{not-kind}
 use Rattle.fdr.specs.Record.{kindOf}
-use mathlib.Core.List.{[], _∷_}
+use Rattle.fdr.specs.declared.record.Record.{Record}
+use Prim.Native.Nat.{ℕ}
+use mathlib.Core.List.{List, [], _∷_}
 use native.Mathlib.Omega.{arith}
 use mathlib.Core.Path.{_≡_, sym, ap, _∙_}
 use borrow.Author.Needs.{needs}
@@ -35,24 +37,36 @@ same-length : tie.Need-same-length
 same-length c = search needs
 
 returns : tie.Need-returns
-returns c = let e = c .before .before .before .before .before .«record» .given .1 in
+returns c = let r : Record = c .before .before .before .before .before .before .before .before .args .«record» in
+    let e = c .before .before .before .before .before .«record» .given .1 in
     let n = c .before .before .call .ensures in
-    record { outcome = n .outcome ∙ sym (to-call _ (c .before .before .before .before .before .before .before .before .args .«record») _ _ _ e); buffers = n .quiet ∙ no-buffer (c .before .before .before .before .before .before .before .before .args .«record») (not-zero (c .before .before .before .before .before .before .before .before .args .«record») 6 (ap kindOf e)); holds = n .holds; kept = n .kept }
+    record { outcome = n .outcome ∙ sym (to-call _ r _ _ _ e); buffers = n .quiet ∙ no-buffer r (not-zero r 6 (ap kindOf e)); holds = n .holds; kept = n .kept }
 
 returns-2 : tie.Need-returns-2
-returns-2 c = after-stay (c .before .before .before .before .args .self) (c .before .before .before .before .args .table .now) (c .before .before .before .before .pre .0) (c .before .before .before .before .pre .1) (c .before .before .before .before .args .«record») _ _ (to-clock _ (c .before .before .before .before .args .«record») _ _ (c .before .record2 .given .1)) (no-buffer (c .before .before .before .before .args .«record») (not-zero (c .before .before .before .before .args .«record») 1 (ap kindOf (c .before .record2 .given .1)))) (omega arith)
+returns-2 c = let a = c .before .before .before .before in
+    let r : Record = a .args .«record» in
+    let e = c .before .record2 .given .1 in
+    after-stay (a .args .self) (olderOf (a .args .row .now) (a .args .since .now)) (a .args .table .now) (a .pre .0) (a .pre .1) r _ _ (to-clock _ r _ _ e) (no-buffer r (not-zero r 1 (ap kindOf e))) (omega arith)
 
 returns-3 : tie.Need-returns-3
-returns-3 c = after-stay (c .before .before .before .before .args .self) (c .before .before .before .before .args .table .now) (c .before .before .before .before .pre .0) (c .before .before .before .before .pre .1) (c .before .before .before .before .args .«record») _ _ (to-wrap _ (c .before .before .before .before .args .«record») _ (c .before .record3 .given .1)) (no-buffer (c .before .before .before .before .args .«record») (not-zero (c .before .before .before .before .args .«record») 2 (ap kindOf (c .before .record3 .given .1)))) (omega arith)
+returns-3 c = let a = c .before .before .before .before in
+    let r : Record = a .args .«record» in
+    let e = c .before .record3 .given .1 in
+    after-stay (a .args .self) (olderOf (a .args .row .now) (a .args .since .now)) (a .args .table .now) (a .pre .0) (a .pre .1) r _ _ (to-wrap _ r _ e) (no-buffer r (not-zero r 2 (ap kindOf e))) (omega arith)
 
 returns-4 : tie.Need-returns-4
 unfolding viewed
-returns-4 c = let k : kindOf (c .before .before .before .args .«record») ≡ 0 = ap kindOf (c .enum-told .given .1) in
-    after-stay (c .before .before .before .args .self) (c .before .before .before .args .table .now) (c .before .before .before .pre .0) (c .before .before .before .pre .1) (c .before .before .before .args .«record») _ _ (idle _ (c .before .before .before .args .«record») (λ z. omega arith) (λ z. omega arith) (λ z. omega arith)) (one-buffer (c .before .before .before .args .«record») k) (omega arith)
+returns-4 c = let a = c .before .before .before in
+    let r : Record = a .args .«record» in
+    let k : kindOf r ≡ 0 = ap kindOf (c .enum-told .given .1) in
+    after-stay (a .args .self) (olderOf (a .args .row .now) (a .args .since .now)) (a .args .table .now) (a .pre .0) (a .pre .1) r _ _ (idle _ r (λ z. omega arith) (λ z. omega arith) (λ z. omega arith)) (one-buffer r k) (omega arith)
 
 returns-5 : tie.Need-returns-5
 unfolding viewed
-returns-5 c = after-stay (c .before .before .args .self) (c .before .before .args .table .now) (c .before .before .pre .0) (c .before .before .pre .1) (c .before .before .args .«record») _ _ (idle _ (c .before .before .args .«record») (not-kind 2 (1 ∷ 4 ∷ 5 ∷ 6 ∷ []) (c .before .before .args .«record») tt (c .match .keys5)) (not-kind 3 (1 ∷ 4 ∷ 5 ∷ 6 ∷ []) (c .before .before .args .«record») tt (c .match .keys5)) (not-kind 7 (1 ∷ 4 ∷ 5 ∷ 6 ∷ []) (c .before .before .args .«record») tt (c .match .keys5))) (no-buffer (c .before .before .args .«record») (not-kind 0 (1 ∷ 4 ∷ 5 ∷ 6 ∷ []) (c .before .before .args .«record») tt (c .match .keys5))) (omega arith)
+returns-5 c = let a = c .before .before in
+    let r : Record = a .args .«record» in
+    let others : List ℕ = 1 ∷ 4 ∷ 5 ∷ 6 ∷ [] in
+    after-stay (a .args .self) (olderOf (a .args .row .now) (a .args .since .now)) (a .args .table .now) (a .pre .0) (a .pre .1) r _ _ (idle _ r (not-kind 2 others r tt (c .match .keys5)) (not-kind 3 others r tt (c .match .keys5)) (not-kind 7 others r tt (c .match .keys5))) (no-buffer r (not-kind 0 others r tt (c .match .keys5))) (omega arith)
 
 pub act-spec : {M : Type 1} → statement M
 act-spec =
