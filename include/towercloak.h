@@ -1,8 +1,8 @@
 /* Towercloak: scrubbing of XRay flight data recorder logs, and exact comparison of times measured in them.
  *
  * Link with libtowercloak.a (`rt staticlib towercloak` writes it to target/staticlib/).
- * Every function may be handed any numbers at all; it keeps no state and touches no memory of the
- * caller's but what it is lent.
+ * Every function may be handed any numbers and any bytes at all; it keeps no state and touches no memory of
+ * the caller's but what it is lent.
  */
 #ifndef TOWERCLOAK_H
 #define TOWERCLOAK_H
@@ -50,8 +50,8 @@ uint32_t towercloak_compare(uint64_t frequency_a, uint64_t constant_tsc_a, uint6
  *         the offset of the refused record's first byte, or of the buffer's end where no byte is left for
  *         a record, and 0 for 1 to 4.
  *
- * log may be null where length is 0; the answer is then 1. place must point to one number, which is
- * written whatever the answer.
+ * log may be null where length is 0; the answer is then 1. place must point to one number outside these
+ * bytes, which is written whatever the answer.
  */
 uint32_t towercloak_scrub(uint8_t *log, size_t length, uint64_t *place);
 

@@ -1,5 +1,6 @@
--- Demand 3: nothing in hidden bytes changes a verdict, and none of them is passed on (paper 01, "How strong each
--- statement is" and "The numbered refusals"). Stated over the definitions of replay and of the scrubber. Assumes nothing.
+-- Demand 3: nothing in hidden bytes changes a verdict, and the scrubbed copy holds zero for each (README.md, "What is
+-- proved"; paper 01, "How strong each statement is" and "The numbered refusals"). Stated over the definitions of replay and
+-- of the scrubber. Assumes nothing.
 use Prim.Native.Nat.{ℕ, _≤_}
 use mathlib.Core.Path.{_≡_}
 use mathlib.Core.Bool.{true, false, _&&_}
@@ -15,7 +16,7 @@ use Rattle.scrub.specs.Scrub.{Scrubbing, scrubbed, scrubbing, bytesAfter}
 
 -- What is the same of a log s and of a log t that overwrites its hidden bytes.
 pub record Alike (s t : List ℕ) : Type 0 where
-  -- "the new log is well-formed with its hidden bytes at the same places"
+  -- Demand 3: "the new log is well-formed with its hidden bytes at the same places"
   pub formed : wellFormed t ≡ true
   pub places : (i : ℕ) → hidden s i ≡ hidden t i
   -- "Where 14 applies to both replays or to neither, they give the same counts and the same refusal and place, or both
@@ -25,13 +26,13 @@ pub record Alike (s t : List ℕ) : Type 0 where
   pub tables : (a b : List ℕ) → written ≤ length a → written ≤ length b → take written (tableAfter s a) ≡ take written (tableAfter t b)
   -- "The scrubber accepts both logs, and the scrubbed copy is what the log holds after it."
   pub accepted : (scrubbing s ≡ scrubbed) × (scrubbing t ≡ scrubbed)
-  -- "the scrubbed copies are equal, zero in every hidden byte and the old byte elsewhere"
+  -- Demand 3: "the scrubbed copies are equal, zero in every hidden byte and the old byte elsewhere"
   pub copies : bytesAfter s ≡ bytesAfter t
   pub long : length (bytesAfter s) ≡ length s
   pub zero : (i : ℕ) → hidden s i ≡ true → byteAt (bytesAfter s) i ≡ 0
   pub old : (i : ℕ) → hidden s i ≡ false → byteAt (bytesAfter s) i ≡ byteAt s i
 
--- "For every well-formed log and every overwriting of its hidden bytes"
+-- Demand 3: "For every well-formed log and every overwriting of its hidden bytes"
 abbrev pub Demand3 : Type 0
 Demand3 = (s t : List ℕ) → wellFormed s ≡ true → Overwritten s t → Alike s t
 

@@ -1,22 +1,24 @@
 -- The starred samples (paper 01, "Sample logs") as a single statement about the definitions of replay and of the
 -- comparison. Each replay is lent 6,145 numbers, all 7. Assumes nothing.
-use Prim.Native.Nat.{ℕ, _-_, _^_}
+use Prim.Native.Nat.{ℕ, _+_, _-_, _^_}
 use mathlib.Core.Path.{_≡_, refl}
 use mathlib.Core.List.{List, [], _∷_, _++_}
-use lib.ListN.{length, take, replicate}
+use lib.ListN.{length, take, drop, replicate}
 use Rattle.fdr.specs.Number.{number, bytesOf, zeros}
 use Rattle.fdr.specs.Decoded.{functionAt, metadataAt, decoded}
 use Rattle.fdr.specs.Header.{headerOf, headerTests, openedWithin}
 use Rattle.fdr.specs.Reading.{sizeTest, recordAt}
 use Rattle.fdr.specs.Walk.{stepIn, next}
-use Rattle.fdr.specs.Trace.{walked, traceFrom, traceWithin}
+use Rattle.fdr.specs.Trace.{walked, traceFrom, traceWithin, finished}
+use Rattle.fdr.specs.Hidden.{hiddenIn, hidden}
 use Rattle.fdr.specs.Writing.{metadataBytes, functionBytes}
 use Rattle.fdr.specs.Sample.{headerBytes, cpuBytes, logBytes, sampleB, sampleWrongExit, sampleAbandoned, sampleBackward, sampleNested, sampleShortest, sampleTooShort, sampleClock, sampleArgument}
 use Rattle.replay.specs.Row.{rowOf, flat, tableOf}
 use Rattle.replay.specs.Row.{zeros as blanks}
 use Rattle.replay.specs.Stack.{nearest, abandonAll}
 use Rattle.replay.specs.Step.{enteredIn, entered, closed, leftTo, left, called, moved, step}
-use Rattle.replay.specs.Replay.{report, refusal, replayed, meaning, recordsIn, buffersIn, answer, tableAfter}
+use Rattle.replay.specs.Replay.{report, refusal, countsOf, replayed, meaning, recordsIn, buffersIn, answer, tableAfter}
+use Rattle.scrub.specs.Scrub.{scrubbed, ending, scrubbing, zeroedFrom, bytesAfter}
 use Rattle.compare.specs.Sample.{Comparisons, comparisons}
 
 unfoldable pub lent : List ℕ
@@ -30,6 +32,7 @@ pub record Accepted (log : List ℕ) (rows : List ℕ) (count buffers records ca
 -- A log is refused, and the table is cleared.
 pub record Refused (log : List ℕ) (n place : ℕ) : Type 0 where
   pub number : answer log lent ≡ refusal n place
+  pub counts : countsOf (answer log lent) ≡ 0 ∷ 0 ∷ 0 ∷ 0 ∷ []
   pub table : tableAfter log lent ≡ replicate 6144 0 ++ (7 ∷ [])
 
 pub record StarredSamples : Type 0 where
@@ -64,17 +67,29 @@ pub starredSamples : StarredSamples
 unfolding lent zeros bytesOf headerBytes metadataBytes functionBytes cpuBytes logBytes sampleB sampleWrongExit sampleAbandoned sampleBackward sampleNested sampleShortest sampleTooShort sampleClock sampleArgument number functionAt metadataAt decoded headerOf headerTests openedWithin sizeTest recordAt stepIn next walked traceFrom traceWithin rowOf flat blanks tableOf nearest abandonAll enteredIn entered closed leftTo left called moved step replayed meaning recordsIn buffersIn answer tableAfter
 starredSamples = record {
   bare = record { counts = refl; table = refl };
-  short = record { number = refl; table = refl };
+  short = record { number = refl; counts = refl; table = refl };
   b = record { counts = refl; table = refl };
-  wrongExit = record { number = refl; table = refl };
+  wrongExit = record { number = refl; counts = refl; table = refl };
   abandoned = record { counts = refl; table = refl };
   backward = record { counts = refl; table = refl };
   nested = record { counts = refl; table = refl };
   shortest = record { counts = refl; table = refl };
-  tooShort = record { number = refl; table = refl };
+  tooShort = record { number = refl; counts = refl; table = refl };
   clock = record { counts = refl; table = refl };
-  clockPast = record { number = refl; table = refl };
-  argument = record { number = refl; table = refl };
+  clockPast = record { number = refl; counts = refl; table = refl };
+  argument = record { number = refl; counts = refl; table = refl };
   argumentTaken = record { counts = refl; table = refl };
   compared = comparisons;
 }
+
+-- Not starred: the scrubber on B with 255 in every hidden byte. Those are header bytes 24 to 31, NewBuffer's last 13,
+-- WallTimeMarker's last 3, NewCPUId's last 5, EndOfBuffer's last 15 and the 16 skipped ones.
+unfoldable pub filled : ℕ → ℕ → List ℕ → List ℕ
+filled from count s = take from s ++ (replicate count 255 ++ drop (from + count) s)
+
+unfoldable pub dirtyB : List ℕ
+dirtyB = filled 24 8 (filled 35 13 (filled 61 3 (filled 75 5 (filled 97 31 sampleB))))
+
+pub scrubbedB : (scrubbing dirtyB ≡ scrubbed) × (bytesAfter dirtyB ≡ sampleB)
+unfolding filled dirtyB zeros bytesOf headerBytes metadataBytes functionBytes cpuBytes logBytes sampleB number functionAt metadataAt decoded headerOf headerTests openedWithin sizeTest recordAt stepIn next walked traceFrom traceWithin finished hiddenIn hidden ending zeroedFrom bytesAfter
+scrubbedB = (refl, refl)

@@ -28,7 +28,7 @@ pub fn run(log: &mut [u8], table: &mut [u64]) -> Answers
     Answers { replayed, scrubbed }
 }
 
-// The same of two logs. Where the second overwrites hidden bytes of the first, nothing tells them apart.
+// The same of two logs: demand 3, where the first is well-formed and the second overwrites hidden bytes of it.
 pub fn run_both(
     log: &mut [u8],
     table: &mut [u64],

@@ -1,7 +1,7 @@
--- In a well-formed log each byte behind the header is hidden or a visible byte of a record. Assumes nothing.
+-- In a well-formed log each byte behind the header is hidden or a visible byte of a record, and not both. Assumes nothing.
 use Prim.Native.Nat.{ℕ, zero, suc, _+_, _<_, _≤_}
 use mathlib.Core.Path.{_≡_, refl, sym, _∙_, subst}
-use mathlib.Core.Bool.{Bool, true, false, _||_, true≢false}
+use mathlib.Core.Bool.{Bool, true, false, not, true≢false}
 use mathlib.Core.List.{List}
 use native.Mathlib.Omega.{arith}
 use lib.Dec.{leb}
@@ -12,7 +12,7 @@ use Rattle.fdr.specs.Reading.{Reading, found, refused, recordAt}
 use Rattle.fdr.specs.Grammar.{follows, joinedBy}
 use Rattle.fdr.specs.Walk.{Stepping, over, went, stopped, inFront, threadTest, grammarTest, recordTest, stepIn, next, startOf}
 use Rattle.fdr.specs.Trace.{Trace, refusedAt, traced, walked, traceFrom, traceWithin, trace, finished, wellFormed}
-use Rattle.fdr.specs.Hidden.{within, hiddenIn, visibleIn}
+use Rattle.fdr.specs.Hidden.{hiddenIn, hidden, visibleIn}
 use Rattle.fdr.specs.declared.record.Record.{Record}
 use Rattle.fdr.specs.declared.grammar.Stage.{Stage}
 use Rattle.fdr.specs.declared.grammar.Follow.{Follow}
@@ -23,8 +23,8 @@ use Rattle.fdr.specs.declared.walk.Position.{Position}
 use Rattle.fdr.proofs.Cases.{by-lt}
 use Rattle.fdr.proofs.Records.{visible-size}
 use Rattle.fdr.proofs.Walking.{in-front, in-buffer}
-use Rattle.fdr.proofs.Tracing.{forward}
-use Rattle.fdr.proofs.Hiding.{in-range, behind-range}
+use Rattle.fdr.proofs.Tracing.{Forward, forward}
+use Rattle.fdr.proofs.Hiding.{before-range, in-range, behind-range, shown-of, hidden-later}
 
 -- The walk is over at the log's end.
 abbrev Goes : Stepping → Type 0
@@ -59,32 +59,44 @@ over-end s p z = by-lt (p .place) (length s) (λ l. absurd (go l (inFront (p .st
     go l true e = subst Goes (sym (in-front s p e l) ∙ z) (goes-in s p (p .place + p .size))
     go l false e = subst Goes (sym (in-buffer s p e) ∙ z) (goes-in s p (p .end))
 
-or-true : (a : Bool) → (a || true) ≡ true
-or-true true = refl
-or-true false = refl
-
-abbrev Covers : Trace → ℕ → Type 0
-Covers t i = (hiddenIn t i || visibleIn t i) ≡ true
-
-covered-from : (f : ℕ) (s : List ℕ) (p : Position) (i : ℕ) → finished (walked f s p) ≡ true → p .place ≤ i → i < length s → Covers (walked f s p) i
-unfolding walked finished hiddenIn visibleIn
-covered-from zero s p i e lo hi = absurd (true≢false (sym e))
-covered-from (suc f) s p i e lo hi = go (next s p) refl e (λ q fin l. covered-from f s q i fin l hi)
+-- What is visible lies behind the place where a trace starts.
+visible-later : (f : ℕ) (s : List ℕ) (p : Position) (i : ℕ) → i < p .place → visibleIn (walked f s p) i ≡ false
+unfolding walked visibleIn
+visible-later zero s p i l = refl
+visible-later (suc f) s p i l = go (next s p) refl (λ r q w. visible-later f s q i (omega (arith, w .by)))
   where
-    go : (x : Stepping) → next s p ≡ x → finished (traced x (p .place) (λ q. walked f s q)) ≡ true → ((q : Position) → finished (walked f s q) ≡ true → q .place ≤ i → Covers (walked f s q) i) → Covers (traced x (p .place) (λ q. walked f s q)) i
+    go : (x : Stepping) → next s p ≡ x → ((r : Record) (q : Position) → Forward s p r q → visibleIn (walked f s q) i ≡ false) → visibleIn (traced x (p .place) (λ q. walked f s q)) i ≡ false
+    go over z h = refl
+    go (stopped n at) z h = refl
+    go (went r q) z h = rw (before-range (p .place) (p .place + visible r) i l, h r q (forward s p r q z))
+
+-- One or the other, and not both.
+abbrev Parted : Trace → ℕ → Type 0
+Parted t i = hiddenIn t i ≡ not (visibleIn t i)
+
+parted-from : (f : ℕ) (s : List ℕ) (p : Position) (i : ℕ) → finished (walked f s p) ≡ true → p .place ≤ i → i < length s → Parted (walked f s p) i
+unfolding walked finished hiddenIn visibleIn
+parted-from zero s p i e lo hi = absurd (true≢false (sym e))
+parted-from (suc f) s p i e lo hi = go (next s p) refl e (λ q fin l. parted-from f s q i fin l hi)
+  where
+    go : (x : Stepping) → next s p ≡ x → finished (traced x (p .place) (λ q. walked f s q)) ≡ true → ((q : Position) → finished (walked f s q) ≡ true → q .place ≤ i → Parted (walked f s q) i) → Parted (traced x (p .place) (λ q. walked f s q)) i
     go over z fin more = absurd (omega (arith, over-end s p z))
     go (stopped n at) z fin more = absurd (true≢false (sym fin))
     go (went r q) z fin more =
+        let by = forward s p r q z .by in
+        let body : ℕ = p .place + visible r in
         by-lt i (q .place)
-        (λ before. by-lt i (p .place + visible r)
-        (λ seen. rw (in-range (p .place) (p .place + visible r) i lo seen) (or-true (within (p .place + visible r) (q .place) i || hiddenIn (walked f s q) i)))
-        (λ unseen. rw (in-range (p .place + visible r) (q .place) i unseen before)))
-        (λ behind. rw (behind-range (p .place + visible r) (q .place) i behind, behind-range (p .place) (p .place + visible r) i (omega (arith, forward s p r q z .by, visible-size r))) (more q fin behind))
+        (λ before. by-lt i body
+        (λ seen. rw (in-range (p .place) body i lo seen) (shown-of (p .place) r (q .place) (walked f s q) i seen (hidden-later f s q i before)))
+        (λ unseen. rw (in-range body (q .place) i unseen before, behind-range (p .place) body i unseen, visible-later f s q i before)))
+        (λ behind. rw (behind-range body (q .place) i behind, behind-range (p .place) body i (omega (arith, by, visible-size r))) (more q fin behind))
 
-pub covered : (s : List ℕ) (i : ℕ) → wellFormed s ≡ true → 32 ≤ i → i < length s → Covers (trace s) i
-unfolding traceWithin traceFrom finished
-covered s i well lo hi = go (openedWithin longest s) well
+-- THE LAW OF HIDDEN BYTES: in a well-formed log the bytes behind the header are hidden where they are no record's visible
+-- ones.
+pub covered : (s : List ℕ) (i : ℕ) → wellFormed s ≡ true → 32 ≤ i → i < length s → hidden s i ≡ not (visibleIn (trace s) i)
+unfolding traceWithin traceFrom finished hidden
+covered s i well lo hi = rw (behind-range 24 32 i lo) (go (openedWithin longest s) well)
   where
-    go : (x : Opening) → finished (elim x [ passed h ↦ traceFrom s (startOf h) | failed n ↦ refusedAt n 0 ]) ≡ true → Covers (elim x [ passed h ↦ traceFrom s (startOf h) | failed n ↦ refusedAt n 0 ]) i
-    go (passed h) fin = covered-from (suc (length s)) s (startOf h) i fin lo hi
+    go : (x : Opening) → finished (elim x [ passed h ↦ traceFrom s (startOf h) | failed n ↦ refusedAt n 0 ]) ≡ true → Parted (elim x [ passed h ↦ traceFrom s (startOf h) | failed n ↦ refusedAt n 0 ]) i
+    go (passed h) fin = parted-from (suc (length s)) s (startOf h) i fin lo hi
     go (failed n) fin = absurd (true≢false (sym fin))

@@ -26,8 +26,8 @@ hiddenIn (refusedAt n place) i = false
 unfoldable pub hidden : List ℕ → ℕ → Bool
 hidden s i = within 24 32 i || hiddenIn (trace s) i
 
--- The other bytes: of an item its record's visible bytes. In a well-formed log each byte behind the header is among
--- these or hidden (`covered`).
+-- Of an item its record's visible bytes. In a well-formed log the bytes behind the header are hidden where they are none
+-- of these (`covered`).
 unfoldable pub visibleIn : Trace → ℕ → Bool
 visibleIn (item place r after rest) i = within place (place + visible r) i || visibleIn rest i
 visibleIn done i = false

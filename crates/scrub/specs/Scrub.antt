@@ -35,6 +35,6 @@ zeroedFrom place set (b ∷ s) = elim (set place) [ true ↦ 0 | false ↦ b ] �
 abbrev pub zeroed : (ℕ → Bool) → List ℕ → List ℕ
 zeroed set s = zeroedFrom 0 set s
 
--- "zero in every hidden byte and the old byte elsewhere"; "and changes nothing when it refuses"
+-- Demand 3: "zero in every hidden byte and the old byte elsewhere". Paper 01: "and changes nothing when it refuses"
 unfoldable pub bytesAfter : List ℕ → List ℕ
 bytesAfter s = elim (wellFormed s) [ true ↦ zeroed (hidden s) s | false ↦ s ]

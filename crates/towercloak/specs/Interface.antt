@@ -16,7 +16,8 @@ abbrev pub sideOf : ℕ → ℕ → ℕ → ℕ → ℕ → Side
 sideOf frequency constant closed backward ticks =
     record { frequency = frequency; «constant_tsc» = constant; closed = closed; backward = backward; ticks = ticks }
 
--- 0 where the log was scrubbed, or the refusal's number, 1 to 8; and the refusal's place.
+-- 0 where the log was scrubbed, or the refusal's number, 1 to 8; and the refusal's place. The paper names no place where
+-- there is no refusal: 0 stands there.
 abbrev pub scrubNumber : Scrubbing → ℕ
 scrubNumber scrubbed = 0
 scrubNumber (Scrubbing.refused n place) = n
