@@ -1,5 +1,5 @@
-//! Links the proved code into each program: `libtowercloak.a` into `compare`,
-//! `libprobe.a` into `replay` and `scrub`. The static libraries are looked for
+//! Links the proved code into each program: `libtowercloak.a` into `compare`
+//! and `scrub`, `libprobe.a` into `replay`. The static libraries are looked for
 //! in the folder that `STATICLIB_DIR` names, else in the repository's
 //! `target/staticlib`.
 
@@ -10,7 +10,7 @@ use std::path::PathBuf;
 const LINKED: [(&str, &str); 3] = [
     ("compare", "libtowercloak.a"),
     ("replay", "libprobe.a"),
-    ("scrub", "libprobe.a"),
+    ("scrub", "libtowercloak.a"),
 ];
 
 fn main() {

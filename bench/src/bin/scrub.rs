@@ -15,15 +15,16 @@ const ROUNDS: usize = 11;
 
 mod c {
     extern "C" {
-        pub fn probe_scrub(log: *mut u8, len: usize, which: u64) -> u64;
+        pub fn towercloak_scrub(log: *mut u8, len: usize, place: *mut u64) -> u32;
     }
 }
 
-/// One number of the proved answer: the refusal's number or 0, or the place.
-fn proved(log: &mut [u8], which: u64) -> u64 {
+/// The proved answer: the refusal's number, or 0.
+fn proved(log: &mut [u8]) -> u32 {
+    let mut place = 0;
     // SAFETY: the pointer and the length are those of a slice that outlives
-    // the call.
-    unsafe { c::probe_scrub(log.as_mut_ptr(), log.len(), which) }
+    // the call, and the place is a number outside it.
+    unsafe { c::towercloak_scrub(log.as_mut_ptr(), log.len(), &mut place) }
 }
 
 /// What the bodies of a log's buffers hold.
@@ -127,10 +128,10 @@ impl Log {
     fn new(mib: usize, body: Body) -> Result<Log, String> {
         let bytes = made(mib * MIB, body);
         let (mut one, mut other) = (bytes.clone(), bytes.clone());
-        let numbers = [0, 1].map(|which| proved(&mut one, which));
+        let number = proved(&mut one);
         let answer = second::scrub::scrub(&mut other);
-        if numbers != [0, 0] || answer.is_err() || one != other {
-            return Err(format!("towercloak: {numbers:?}, second: {answer:?}"));
+        if number != 0 || answer.is_err() || one != other {
+            return Err(format!("towercloak: {number}, second: {answer:?}"));
         }
         let parts = hidden(&bytes);
         Ok(Log {
@@ -157,7 +158,7 @@ impl Log {
     }
 
     fn round(&mut self, copy: &mut Vec<u8>, proved_first: bool) {
-        let by_proved = |log: &mut [u8]| assert_eq!(proved(log, 0), 0);
+        let by_proved = |log: &mut [u8]| assert_eq!(proved(log), 0);
         let by_second = |log: &mut [u8]| assert!(second::scrub::scrub(log).is_ok());
         let round = if proved_first {
             let proved = self.timed(copy, by_proved);
