@@ -1,0 +1,35 @@
+-- Demand 2's round trip: "What the writer accepts is read back as the same records" (paper 01, "Writer and comparison").
+-- Assumes nothing.
+use Prim.Native.Nat.{ℕ, _+_, _^_, _<_}
+use mathlib.Core.Path.{_≡_}
+use mathlib.Core.Bool.{Bool, true, cond}
+use mathlib.Core.List.{List, [], _∷_}
+use lib.ListN.{length, take, drop}
+use Rattle.fdr.specs.Record.{sizeOf, eventSize}
+use Rattle.fdr.specs.Header.{passed, openedWithin, longest}
+use Rattle.fdr.specs.Trace.{Trace, item, done, refusedAt, trace, wellFormed}
+use Rattle.fdr.specs.declared.grammar.Stage.the-variants.{Between}
+use Rattle.log_writer.specs.declared.Writer.{Writer}
+use Rattle.log_writer.specs.Start.{went, started, outputStarted}
+use Rattle.log_writer.specs.Call.{Call}
+use Rattle.log_writer.specs.Session.{Entry, stateIn, outputIn, acceptedIn, TypedCalls}
+
+-- The records of a trace, each with the bytes of its event.
+unfoldable pub entriesIn : List ℕ → Trace → List Entry
+entriesIn s (item place r after rest) = record { it = r; event = take (eventSize r) (drop (place + sizeOf r) s) } ∷ entriesIn s rest
+entriesIn s done = []
+entriesIn s (refusedAt n place) = []
+
+-- "a well-formed log whose records are those accepted, in order", with the header that the start fixed.
+pub record Holds (frequency : ℕ) (constant nonstop : Bool) (size : ℕ) (accepted : List Entry) (log : List ℕ) : Type 0 where
+  pub formed : wellFormed log ≡ true
+  pub header : openedWithin longest log ≡ passed (record { «constant_tsc» = cond constant 1 0; «nonstop_tsc» = cond nonstop 1 0; frequency = frequency; «buffer_size» = size })
+  pub records : entriesIn log (trace log) ≡ accepted
+
+-- "From one start, where every call gets the same output and the state last returned and nothing else writes to it, after
+-- a close or right after the start the bytes so far are" such a log: for every sequence of calls, refused ones among them.
+abbrev pub WrittenLog : Type 0
+WrittenLog = (frequency : ℕ) (constant nonstop : Bool) (size thread : ℕ) (out : List ℕ) (first : Writer) (calls : List Call)
+    → frequency < 2 ^ 64 → thread < 2 ^ 16 → started size thread (length out) ≡ went first → TypedCalls calls
+    → stateIn (length out) first calls .stage ≡ Between
+    → Holds frequency constant nonstop size (acceptedIn (length out) first calls) (take (stateIn (length out) first calls .place) (outputIn first calls (outputStarted frequency constant nonstop size thread out)))
