@@ -1,2 +1,6 @@
 pub mod Shown
 pub mod Demand3
+pub mod Passing
+pub mod Stepping
+pub mod Sessions
+pub mod WrittenLog
