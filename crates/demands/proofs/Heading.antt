@@ -1,0 +1,78 @@
+-- A log that starts with a header's bytes opens with that header. Assumes nothing.
+use Prim.Native.Nat.{ℕ, _+_, _-_, _%_, _^_, _<_, _≤_}
+use mathlib.Core.Path.{_≡_, refl, sym, ap, _∙_}
+use mathlib.Core.Bool.{Bool, true, false, not, cond, _&&_, _||_}
+use mathlib.Core.List.{List}
+use native.Mathlib.Omega.{arith}
+use borrow.Author.Tests.{le-ltb, eq-eqb}
+use lib.Dec.{lit≤, ltb, eqb}
+use lib.ListN.{length}
+use Rattle.fdr.specs.Number.{byteAt, number, bytesOf, zeros}
+use Rattle.fdr.specs.Bits.{bitfieldOf, constantTscIn, nonstopTscIn}
+use Rattle.fdr.specs.Writing.{headerBytes}
+use Rattle.fdr.specs.Header.{passed, headerOf, openedWithin, longest}
+use Rattle.fdr.specs.declared.header.Header.{Header}
+use Rattle.fdr.proofs.Numbers.{number-agree}
+use Rattle.fdr.proofs.Storing.{number-bytes}
+use Rattle.fdr.proofs.Opening.{sizesRight, opens}
+
+bits-back : (constant nonstop : Bool) → (constantTscIn (bitfieldOf constant nonstop) ≡ cond constant 1 0) × (nonstopTscIn (bitfieldOf constant nonstop) ≡ cond nonstop 1 0) × (bitfieldOf constant nonstop < 256 ^ 4)
+bits-back true true = (refl, refl, lit≤ tt)
+bits-back true false = (refl, refl, lit≤ tt)
+bits-back false true = (refl, refl, lit≤ tt)
+bits-back false false = (refl, refl, lit≤ tt)
+
+module _ (frequency : ℕ) (constant nonstop : Bool) (size : ℕ) where
+  abbrev pub heading : List ℕ
+  heading = headerBytes frequency constant nonstop size
+
+  abbrev pub fixed : Header
+  fixed = record { «constant_tsc» = cond constant 1 0; «nonstop_tsc» = cond nonstop 1 0; frequency = frequency; «buffer_size» = size }
+
+  pub heading-long : length heading ≡ 32
+  unfolding bytesOf zeros headerBytes
+  heading-long = refl
+
+  -- A log with that header opens, where its buffers are whole.
+  module _ (s : List ℕ) (few : frequency < 2 ^ 64) (least : 64 ≤ size) (most : size ≤ 16777184) (long : 32 ≤ length s) (short : length s ≤ longest)
+      (whole : (length s - 32) % size ≡ 0) (same : (i : ℕ) → i < 32 → byteAt s i ≡ byteAt heading i) where
+    part : (k at : ℕ) → at + k ≤ 32 → number k s at ≡ number k heading at
+    part k at l = number-agree k s heading at (λ i a b. same i (omega arith))
+
+    version-back : number 2 s 0 ≡ 1
+    unfolding number bytesOf zeros headerBytes
+    version-back = part 2 0 (lit≤ tt)
+
+    type-back : number 2 s 2 ≡ 1
+    unfolding number bytesOf zeros headerBytes
+    type-back = part 2 2 (lit≤ tt)
+
+    bitfield-back : number 4 s 4 ≡ bitfieldOf constant nonstop
+    unfolding number bytesOf zeros headerBytes
+    bitfield-back = part 4 4 (lit≤ tt) ∙ number-bytes 4 (bitfieldOf constant nonstop) (bits-back constant nonstop .2)
+
+    frequency-back : number 8 s 8 ≡ frequency
+    unfolding number bytesOf zeros headerBytes
+    frequency-back = part 8 8 (lit≤ tt) ∙ number-bytes 8 frequency few
+
+    size-back : number 8 s 16 ≡ size
+    unfolding number bytesOf zeros headerBytes
+    size-back = part 8 16 (lit≤ tt) ∙ number-bytes 8 size (omega arith)
+
+    header-back : headerOf s ≡ fixed
+    unfolding headerOf
+    header-back =
+        let (c, n, small) = bits-back constant nonstop in
+        rw (bitfield-back, frequency-back, size-back, c, n)
+
+    sizes-right : sizesRight s size ≡ true
+    sizes-right = go (ltb 32 (length s))
+      where
+        go : (b : Bool) → not (b && ltb size 64 || b && not (eqb ((length s - 32) % size) 0)) ≡ true
+        go true = rw (le-ltb size 64 least, eq-eqb ((length s - 32) % size) 0 whole)
+        go false = refl
+
+    pub opens-back : openedWithin longest s ≡ passed fixed
+    opens-back =
+        sym (opens longest s long short version-back type-back (sym (ap (sizesRight s) size-back ∙ sizes-right)))
+        ∙ ap passed header-back
