@@ -1,4 +1,4 @@
--- The answers of the reader, the writer, the walk, the replay and the scrubber as lists of numbers. Assumes nothing.
+-- The answers of the reader, the writers, the walk, the replay and the scrubber as lists of numbers. Assumes nothing.
 use Prim.Native.Nat.{ℕ, _%_, _^_}
 use mathlib.Core.Bool.{true, false}
 use mathlib.Core.List.{List, [], _∷_}
@@ -10,6 +10,8 @@ use Rattle.fdr.specs.Writing.{Writing, wrote, denied}
 use Rattle.fdr.specs.Walk.{Stepping, over, went, stopped}
 use Rattle.replay.specs.Replay.{Verdict, report, refusal}
 use Rattle.scrub.specs.Scrub.{Scrubbing, scrubbed}
+use Rattle.log_writer.specs.Start.{Outcome}
+use Rattle.log_writer.specs.declared.Writer.{Writer}
 use Rattle.fdr.specs.declared.record.Record.{Record}
 use Rattle.fdr.specs.declared.record.Record.the-variants.{Function, NewBuffer, EndOfBuffer, NewCpuId, TscWrap, WallTime, CustomEvent, CallArgument}
 use Rattle.fdr.specs.declared.grammar.Stage.{Stage}
@@ -111,3 +113,13 @@ writingNumbers (denied n) = n ∷ 0 ∷ []
 abbrev pub scrubbingNumbers : Scrubbing → List ℕ
 scrubbingNumbers scrubbed = 0 ∷ 0 ∷ []
 scrubbingNumbers (Scrubbing.refused n place) = n ∷ place ∷ []
+
+-- A writer's state from numbers, as a position's; a thread is cut to its width.
+abbrev pub writerOf : ℕ → ℕ → ℕ → ℕ → ℕ → Writer
+writerOf size thread place end stage =
+    record { size = size; thread = thread % 2 ^ 16; place = place; end = end; stage = stageOf stage }
+
+-- 0 and the writer's next state, or the refusal's number.
+abbrev pub outcomeNumbers : Outcome → List ℕ
+outcomeNumbers (Outcome.went w) = 0 ∷ w .size ∷ w .thread ∷ w .place ∷ w .end ∷ stageNumber (w .stage) ∷ []
+outcomeNumbers (Outcome.denied n) = n ∷ 0 ∷ 0 ∷ 0 ∷ 0 ∷ 0 ∷ []

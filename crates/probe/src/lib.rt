@@ -1,4 +1,4 @@
-// The reader, the writer, the walk, the replay and the scrubber on numbers and byte slices, for tests and benchmarks in other languages.
+// The reader, the writers, the walk, the replay and the scrubber on numbers and byte slices, for tests and benchmarks in other languages.
 // Each function answers one number, the `which`-th of its answer written as a list (specs/Numbers.antt),
 // and 0 past the list's end.
 mod list;
@@ -9,17 +9,25 @@ ghost use Rattle.fdr.specs.Header.{openedWithin, longest};
 ghost use Rattle.fdr.specs.Reading.{reading, eventAt};
 ghost use Rattle.fdr.specs.Walk.{next};
 ghost use Rattle.fdr.specs.Writing.{written, outputAfter};
-ghost use Rattle.probe.specs.Numbers.{openingNumbers, readingNumbers, eventNumbers, steppingNumbers, positionOf, verdictNumbers, recordOf, writingNumbers, scrubbingNumbers};
+ghost use Rattle.probe.specs.Numbers.{openingNumbers, readingNumbers, eventNumbers, steppingNumbers, positionOf, verdictNumbers, recordOf, writingNumbers, scrubbingNumbers, writerOf, outcomeNumbers};
 ghost use Rattle.replay.specs.Replay.{answer, tableAfter};
 ghost use Rattle.scrub.specs.Scrub.{scrubbing, bytesAfter};
+ghost use Rattle.log_writer.specs.Start.{started, outputStarted};
+ghost use Rattle.log_writer.specs.Call.{opening, adding, closing, called, outputCalled};
+ghost use mathlib.Core.Bool.{not};
+ghost use lib.Dec.{eqb};
+ghost use Prim.Native.Nat.{_%_, _^_};
 use list::answer_numbers;
+use list::answered;
 use list::opened_numbers;
 use list::position_of;
 use list::read_numbers;
 use list::record_of;
 use list::scrub_numbers;
 use list::step_numbers;
+use list::writer_of;
 use list::written_numbers;
+use log_writer::Writer;
 
 #[no_mangle]
 pub extern "C" fn probe_header(log: &[u8], which: u64) -> u64
@@ -124,4 +132,89 @@ pub extern "C" fn probe_scrub(log: &mut [u8], which: u64) -> u64
     } else {
         0
     }
+}
+
+#[no_mangle]
+pub extern "C" fn probe_start(
+    frequency: u64,
+    constant_tsc: u64,
+    nonstop_tsc: u64,
+    size: u64,
+    thread: u64,
+    out: &mut [u8],
+    which: u64,
+) -> u64
+    ensures { λ r. ⌜ r ≡ getD (outcomeNumbers (started size (thread % 2 ^ 16) (length (now (out .entry))))) which 0 ⌝ }
+    ensures { λ _. ⌜ now (out .exit) ≡ outputStarted frequency (not (eqb «constant_tsc» 0)) (not (eqb «nonstop_tsc» 0)) size (thread % 2 ^ 16) (now (out .entry)) ⌝ }
+{
+    let constant = constant_tsc != 0;
+    let nonstop = nonstop_tsc != 0;
+    let named = (thread % 65536) as u16;
+    answered(
+        Writer::start(frequency, constant, nonstop, size as usize, named, out),
+        which,
+    )
+}
+
+#[no_mangle]
+pub extern "C" fn probe_open(
+    size: u64,
+    thread: u64,
+    place: u64,
+    end: u64,
+    stage: u64,
+    seconds: u64,
+    micros: u64,
+    cpu: u64,
+    tsc: u64,
+    out: &mut [u8],
+    which: u64,
+) -> u64
+    ensures { λ r. ⌜ r ≡ getD (outcomeNumbers (called (writerOf size thread place end stage) (opening seconds (micros % 2 ^ 32) (cpu % 2 ^ 16) tsc) (length (now (out .entry))))) which 0 ⌝ }
+    ensures { λ _. ⌜ now (out .exit) ≡ outputCalled (writerOf size thread place end stage) (opening seconds (micros % 2 ^ 32) (cpu % 2 ^ 16) tsc) (now (out .entry)) ⌝ }
+{
+    let writer = writer_of(size, thread, place, end, stage);
+    let parts = (micros % 4294967296) as u32;
+    let core = (cpu % 65536) as u16;
+    answered(writer.open(seconds, parts, core, tsc, out), which)
+}
+
+#[no_mangle]
+pub extern "C" fn probe_add(
+    size: u64,
+    thread: u64,
+    place: u64,
+    end: u64,
+    stage: u64,
+    kind: u64,
+    a: u64,
+    b: u64,
+    c: u64,
+    event: &[u8],
+    out: &mut [u8],
+    which: u64,
+) -> u64
+    ensures { λ r. ⌜ r ≡ getD (outcomeNumbers (called (writerOf size thread place end stage) (adding (recordOf kind a b c) (now (event .entry))) (length (now (out .entry))))) which 0 ⌝ }
+    ensures { λ _. ⌜ now (out .exit) ≡ outputCalled (writerOf size thread place end stage) (adding (recordOf kind a b c) (now (event .entry))) (now (out .entry)) ⌝ }
+{
+    let writer = writer_of(size, thread, place, end, stage);
+    let record = record_of(kind, a, b, c);
+    answered(writer.add(record, event, out), which)
+}
+
+#[no_mangle]
+pub extern "C" fn probe_close(
+    size: u64,
+    thread: u64,
+    place: u64,
+    end: u64,
+    stage: u64,
+    out: &mut [u8],
+    which: u64,
+) -> u64
+    ensures { λ r. ⌜ r ≡ getD (outcomeNumbers (called (writerOf size thread place end stage) closing (length (now (out .entry))))) which 0 ⌝ }
+    ensures { λ _. ⌜ now (out .exit) ≡ outputCalled (writerOf size thread place end stage) closing (now (out .entry)) ⌝ }
+{
+    let writer = writer_of(size, thread, place, end, stage);
+    answered(writer.close(out), which)
 }

@@ -6,7 +6,9 @@ ghost use Rattle.fdr.specs.Walk.{steppingOf};
 ghost use Rattle.fdr.specs.Writing.{writingOf};
 ghost use Rattle.replay.specs.Replay.{verdictOf};
 ghost use Rattle.scrub.specs.Scrub.{scrubbingOf};
-ghost use Rattle.probe.specs.Numbers.{scrubbingNumbers, verdictNumbers, writingNumbers, recordOf, recordNumbers, openingNumbers, readingNumbers, steppingNumbers, stageNumber, threadNumber, stageOf, threadsOf, positionOf};
+ghost use Rattle.log_writer.specs.Start.{outcomeOf};
+ghost use lib.ListN.{getD};
+ghost use Rattle.probe.specs.Numbers.{scrubbingNumbers, writerOf, outcomeNumbers, verdictNumbers, writingNumbers, recordOf, recordNumbers, openingNumbers, readingNumbers, steppingNumbers, stageNumber, threadNumber, stageOf, threadsOf, positionOf};
 use fdr::grammar::Stage;
 use fdr::grammar::Threads;
 use fdr::header::Opened;
@@ -15,6 +17,7 @@ use fdr::record::Record;
 use fdr::walk::Position;
 use fdr::walk::Step;
 use fdr::writer::Written;
+use log_writer::Writer;
 use replay::Answer;
 
 fn record_numbers(record: Record) -> [u64; 4]
@@ -198,5 +201,45 @@ pub fn scrub_numbers(answer: scrub::Answer) -> [u64; 2]
     match answer {
         scrub::Answer::Scrubbed => [0, 0],
         scrub::Answer::Refused { refusal, place } => [refusal.number(), place],
+    }
+}
+
+pub fn writer_of(size: u64, thread: u64, place: u64, end: u64, stage: u64) -> Writer
+    ensures { λ r. ⌜ r ≡ writerOf size thread place end stage ⌝ }
+{
+    Writer {
+        size: size as usize,
+        thread: (thread % 65536) as u16,
+        place: place as usize,
+        end: end as usize,
+        stage: stage_of(stage),
+    }
+}
+
+fn outcome_numbers(answer: log_writer::Answer) -> [u64; 6]
+    ensures { λ r. ⌜ r ≡ outcomeNumbers (outcomeOf answer) ⌝ }
+{
+    match answer {
+        log_writer::Answer::Went(w) => [
+            0,
+            w.size as u64,
+            w.thread as u64,
+            w.place as u64,
+            w.end as u64,
+            stage_number(w.stage),
+        ],
+        log_writer::Answer::Refused(refusal) => [refusal.number(), 0, 0, 0, 0, 0],
+    }
+}
+
+// One number of the log writer's answer.
+pub fn answered(answer: log_writer::Answer, which: u64) -> u64
+    ensures { λ r. ⌜ r ≡ getD (outcomeNumbers (outcomeOf answer)) which 0 ⌝ }
+{
+    let numbers = outcome_numbers(answer);
+    if which < 6 {
+        numbers[which as usize]
+    } else {
+        0
     }
 }
