@@ -5,6 +5,7 @@ pub mod Storing
 pub mod Records
 pub mod Decoding
 pub mod Writing
+pub mod HeaderWriting
 pub mod Opening
 pub mod Walking
 pub mod Tracing
