@@ -1,7 +1,7 @@
 //! What a run has seen.
 
 use crate::call::{At, Call};
-use crate::edges::{Case, EDGES};
+use crate::edges::{self, Case, EDGES};
 use crate::plan::Kind;
 use second::log_writer::State;
 use second::record::Record;
@@ -37,6 +37,9 @@ const ADDED: [&str; 12] = [
     "action above 3",
 ];
 
+/// Outputs of every length up to this one must occur.
+const SMALL: usize = 300;
+
 /// Answers by the place of their refusal in `NUMBERS`.
 type Answers = [u64; NUMBERS.len()];
 
@@ -47,6 +50,10 @@ pub struct Counts {
     asked: [Answers; ASKED.len()],
     added: [Answers; ADDED.len()],
     edges: [u64; EDGES.len()],
+    /// Odd states that only the limit of 16,777,216 bytes shuts out.
+    past: u64,
+    /// Outputs by their length.
+    lengths: Vec<u64>,
     /// Logs read back; those with a buffer; their records, events and bytes.
     logs: u64,
     with_buffers: u64,
@@ -86,6 +93,13 @@ fn added(record: &Record) -> usize {
 }
 
 impl Counts {
+    pub fn new() -> Counts {
+        Counts {
+            lengths: vec![0; SMALL + 1],
+            ..Counts::default()
+        }
+    }
+
     pub fn call(&mut self, call: &Call, answer: &Result<State, u8>) {
         count(&mut self.asked[asked(call)], answer);
         if let Call::Add { given, .. } = call {
@@ -93,8 +107,16 @@ impl Counts {
         }
     }
 
-    pub fn odd_call(&mut self, call: &Call, answer: &Result<State, u8>) {
+    pub fn odd_call(&mut self, call: &Call, at: &At, length: usize, answer: &Result<State, u8>) {
         count(&mut self.asked[3 + asked(call)], answer);
+        self.past += u64::from(edges::is_past(call, at, length));
+    }
+
+    /// The length of an output.
+    pub fn output(&mut self, length: usize) {
+        if let Some(count) = self.lengths.get_mut(length) {
+            *count += 1;
+        }
     }
 
     pub fn record(&mut self, refusal: u8) {
@@ -156,6 +178,7 @@ impl Counts {
         for ((name, _), count) in EDGES.iter().zip(self.edges) {
             println!("{name:<28}{count:>10}");
         }
+        println!("{:<28}{:>10}", "odd state past 16,777,216: 7", self.past);
         println!("\n{:<28}{:>10}", "logs read back", self.logs);
         println!("{:<28}{:>10}", "of these with buffers", self.with_buffers);
         println!("{:<28}{:>10}", "their records", self.records);
@@ -184,6 +207,11 @@ impl Counts {
         }
         for ((name, _), count) in EDGES.iter().zip(self.edges) {
             need(count, format!("never seen: {name}"));
+        }
+        let past = "no odd state past 16,777,216 bytes";
+        need(self.past, past.to_string());
+        for (length, count) in self.lengths.iter().enumerate() {
+            need(*count, format!("no output of {length} bytes"));
         }
         for (name, answers) in ADDED.iter().zip(self.added) {
             need(answers.iter().sum(), format!("{name} was never added"));

@@ -2,7 +2,7 @@
 
 use crate::call::{At, Call, Given};
 use second::header::LONGEST;
-use second::log_writer::{State, GREATEST_BUFFER};
+use second::log_writer::{is_returned, State, GREATEST_BUFFER};
 use second::record::{Record, ENTRY_ARGS};
 use second::writer::LEAST_BAD_ID;
 
@@ -18,7 +18,7 @@ pub struct Case<'a> {
     pub last: Option<&'a Record>,
 }
 
-pub const EDGES: [Edge; 28] = [
+pub const EDGES: [Edge; 29] = [
     ("size 63: 16", |case| case.starts(63) == Some(16)),
     ("size 64: taken", |case| case.starts(64) == Some(0)),
     ("size 16,777,184: taken", |case| {
@@ -99,6 +99,9 @@ pub const EDGES: [Edge; 28] = [
     ("event of 1 byte: taken", |case| {
         case.event() == Some(1) && case.number() == 0
     }),
+    ("event over 65,535: taken", |case| {
+        case.event().is_some_and(|length| length > 65_535) && case.number() == 0
+    }),
     ("event to the end: taken", |case| {
         case.event().is_some_and(|length| length == case.room()) && case.number() == 0
     }),
@@ -106,6 +109,31 @@ pub const EDGES: [Edge; 28] = [
         case.event().is_some_and(|length| length == case.room() + 1) && case.number() == 15
     }),
 ];
+
+/// Whether only the limit of 16,777,216 bytes keeps accepted calls from
+/// returning this state, and the call is one that takes such states.
+pub fn is_past(call: &Call, at: &At, length: usize) -> bool {
+    if at.end <= LONGEST as u64 || at.end > length as u64 || at.size > GREATEST_BUFFER {
+        return false;
+    }
+    if at.size == 0 || !(at.end - 32).is_multiple_of(at.size) {
+        return false;
+    }
+    // The same place in the first buffer.
+    let first = 32 + at.size;
+    let back = at.end - first;
+    let state = State {
+        place: at.place.wrapping_sub(back),
+        end: first,
+        ..at.state()
+    };
+    let takes = match call {
+        Call::Close => at.stage > 0,
+        Call::Open { .. } => at.stage == 0,
+        _ => false,
+    };
+    takes && is_returned(&state, first)
+}
 
 impl Case<'_> {
     /// The refusal's number, or 0.

@@ -1,11 +1,13 @@
 //! Logs by the proved writer, read by LLVM's `llvm-xray fdr-dump`. Its output
-//! must be the accepted records, in order and with all their fields.
+//! must be the accepted records, in order and with all their fields; and with
+//! `--verify` it must find their order right.
 //!
-//! Tried with version 14. It shows nothing of the header. It reads EndOfBuffer
-//! and goes on in the skipped rest, 8 zero bytes at a time as an Entry of
-//! function 0; a rest of another length puts the next buffer out of step. An
-//! event of 0 bytes is refused. So these logs have buffers and events of a
-//! multiple of 8 bytes, and no empty event.
+//! Tried with version 14. It shows nothing of the header. Behind EndOfBuffer it
+//! reads on in the skipped rest, 8 zero bytes at a time as an Entry of function
+//! 0; a rest of another length puts the next buffer out of step, or is refused
+//! at the log's end. An event of 0 bytes is refused. So these logs have buffers
+//! and events of a multiple of 8 bytes, and no empty event. `--verify` takes a
+//! CallArgument behind any function record.
 
 use crate::call::{Call, Given};
 use crate::counts::Counts;
@@ -59,19 +61,26 @@ fn logs(program: &str, path: &Path, seed: u64) -> Result<usize, String> {
 fn log(program: &str, path: &Path, random: &mut Random) -> Result<usize, String> {
     let size = 64 + 8 * random.below(64);
     let buffers = 1 + random.below(BUFFERS);
-    let mut counts = Counts::default();
+    let mut counts = Counts::new();
     let length = 32 + size * buffers;
     let mut session = Session::new(random, &mut counts, length as usize);
     write(&mut session, size, buffers)?;
     session.read_back()?;
     std::fs::write(path, session.log()).map_err(|fault| fault.to_string())?;
-    let dump = Command::new(program).arg("fdr-dump").arg(path).output();
-    let dump = dump.map_err(|fault| fault.to_string())?;
-    if !dump.status.success() || !dump.stderr.is_empty() {
-        return Err(String::from_utf8_lossy(&dump.stderr).to_string());
-    }
-    compare(&session, &dump.stdout)?;
+    let dump = output(Command::new(program).arg("fdr-dump").arg(path))?;
+    compare(&session, &dump)?;
+    let verify = ["fdr-dump", "--verify"];
+    output(Command::new(program).args(verify).arg(path))?;
     Ok(session.records().len())
+}
+
+/// What a command prints; the text tells that it failed.
+fn output(command: &mut Command) -> Result<Vec<u8>, String> {
+    let output = command.output().map_err(|fault| fault.to_string())?;
+    if !output.status.success() || !output.stderr.is_empty() {
+        return Err(String::from_utf8_lossy(&output.stderr).to_string());
+    }
+    Ok(output.stdout)
 }
 
 /// A whole log. Refused calls are in it as well, and leave nothing.

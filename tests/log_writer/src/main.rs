@@ -29,7 +29,7 @@ use session::Session;
 use std::process::ExitCode;
 
 /// Sequences where no number is given.
-const SEQUENCES: u64 = 120_000;
+const SEQUENCES: u64 = 200_000;
 
 struct Arguments {
     sequences: u64,
@@ -72,6 +72,7 @@ fn sequence(index: u64, seed: u64, counts: &mut Counts) -> Result<(), String> {
     let kind = Kind::at(index);
     let plan = plan::plan(random, kind, index);
     counts.kinds[kind as usize] += 1;
+    counts.output(plan.length);
     counts.record(writing::compare(random)?);
     let mut session = Session::new(random, counts, plan.length);
     session.run(&plan, kind).map_err(|text| {
@@ -86,7 +87,7 @@ fn run() -> Result<String, String> {
         seed,
         llvm,
     } = arguments()?;
-    let mut counts = Counts::default();
+    let mut counts = Counts::new();
     for index in 0..sequences {
         sequence(index, seed, &mut counts)
             .map_err(|text| format!("difference: --seed {seed:#018x}, sequence {index}, {text}"))?;

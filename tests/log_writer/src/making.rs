@@ -7,7 +7,7 @@ use second::random::Random;
 use second::walk::Stage;
 use second::writer::LEAST_BAD_ID;
 
-/// The least room in which long events are rare.
+/// The least room in which some events are short, so that more of them fit.
 const WIDE: u64 = 100_000;
 
 pub fn start(random: &mut Random, size: u64) -> Call {
@@ -132,17 +132,15 @@ fn function(random: &mut Random) -> Given {
 /// at times up to their end, one byte longer, or into the room of EndOfBuffer.
 fn event_length(random: &mut Random, left: u64) -> usize {
     let room = left.saturating_sub(16);
-    if room >= WIDE && !random.once_in(3) {
-        return random.index(200);
-    }
     let length = match random.below(9) {
-        0 => 0,
-        1 => 1,
-        2 => room,
-        3 => room + 1,
-        4 => left,
-        5 => left + random.below(40),
-        6 => random.below(room + 1),
+        5.. if room >= WIDE => random.below(200),
+        0 => room,
+        1 => room + 1,
+        2 => random.below(room + 1),
+        3 => left,
+        4 => left + random.below(40),
+        5 => 0,
+        6 => 1,
         _ => random.below(room.min(40) + 1),
     };
     length as usize

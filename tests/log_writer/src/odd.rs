@@ -2,6 +2,7 @@
 //! far away.
 
 use crate::call::At;
+use second::header::LONGEST;
 use second::log_writer::State;
 use second::random::Random;
 
@@ -9,6 +10,7 @@ use second::random::Random;
 /// one that some calls on an output of this length may return.
 pub fn at(random: &mut Random, state: Option<&State>, length: usize) -> At {
     let mut at = match state {
+        _ if length > LONGEST && random.once_in(2) => return past(random, length as u64),
         Some(state) if !random.once_in(3) => At::of(state),
         _ => somewhere(random, length as u64),
     };
@@ -43,6 +45,26 @@ fn somewhere(random: &mut Random, length: u64) -> At {
     let place = match stage {
         0 => end,
         _ => end.wrapping_sub(size).wrapping_add(offset),
+    };
+    At {
+        size,
+        thread: random.value(),
+        place,
+        end,
+        stage,
+    }
+}
+
+/// Whole buffers up to the end of an output past the longest log: a state that
+/// calls would return if a log could be longer.
+fn past(random: &mut Random, length: u64) -> At {
+    let buffers = 2 + random.below(40);
+    let size = (length - 32) / buffers;
+    let end = 32 + size * buffers;
+    let stage = random.one_of(&[0, 3, 4]);
+    let place = match stage {
+        0 => end,
+        _ => end - size + 72 + random.below(size - 88),
     };
     At {
         size,

@@ -17,6 +17,9 @@ pub enum Kind {
     Large,
 }
 
+/// One in this many sequences has a large output.
+const LARGE: u64 = 4_000;
+
 impl Kind {
     pub const ALL: [Kind; 5] = [
         Kind::Small,
@@ -29,7 +32,7 @@ impl Kind {
     /// The kind of the sequence with this index in a run.
     pub fn at(index: u64) -> Kind {
         match index % 8 {
-            _ if index % 4_000 == 17 => Kind::Large,
+            _ if index % LARGE == 17 => Kind::Large,
             0 => Kind::Edge,
             1..=3 => Kind::Small,
             4 | 5 => Kind::Middle,
@@ -117,8 +120,8 @@ fn large(random: &mut Random, index: u64) -> Plan {
         GREATEST_BUFFER / 3 + 1,
         GREATEST_BUFFER - 1,
     ];
-    let lengths = [16_777_216, 16_777_217, 16_777_315, 16_777_215];
-    let turn = (index / 4_000) as usize;
+    let lengths = [16_777_216, 16_777_217, 16_777_215, 16_780_000];
+    let turn = (index / LARGE) as usize;
     Plan {
         length: lengths[(turn / sizes.len() + turn) % lengths.len()] as usize,
         size: sizes[turn % sizes.len()],

@@ -48,7 +48,8 @@ impl<'a> Session<'a> {
         let begin = making::start(self.random, plan.size);
         self.call(&begin)?;
         for _ in 0..plan.calls {
-            if self.random.once_in(3) {
+            // Large outputs are few.
+            if kind == Kind::Large || self.random.once_in(3) {
                 self.odd_call()?;
             }
             let Some(state) = self.state else { continue };
@@ -58,8 +59,8 @@ impl<'a> Session<'a> {
                 self.read_at_times()?;
             }
             // A full output ends most sequences.
-            let full = !taken && matches!(call, Call::Open { .. });
-            if full && state.stage == Stage::Between && !self.random.once_in(4) {
+            let full = !taken && state.stage == Stage::Between && kind != Kind::Large;
+            if full && matches!(call, Call::Open { .. }) && !self.random.once_in(4) {
                 break;
             }
         }
@@ -125,7 +126,7 @@ impl<'a> Session<'a> {
             .output
             .call(&call, &at, length, self.random)
             .map_err(named)?;
-        self.counts.odd_call(&call, &done.answer);
+        self.counts.odd_call(&call, &at, length, &done.answer);
         self.output.undo(done);
         Ok(())
     }
