@@ -7,7 +7,7 @@ use second::random::Random;
 use second::walk::Stage;
 use second::writer::LEAST_BAD_ID;
 
-/// The least room in which some events are short, so that more of them fit.
+/// The least room in which most events are shorter, so that more of them fit.
 const WIDE: u64 = 100_000;
 
 pub fn start(random: &mut Random, size: u64) -> Call {
@@ -69,7 +69,10 @@ fn left(state: &State) -> u64 {
 }
 
 fn add(random: &mut Random, state: &State) -> Call {
-    let kind = kind(random, state.stage == Stage::Arguments);
+    let kind = match left(state) {
+        WIDE.. if random.once_in(4) => 5,
+        _ => kind(random, state.stage == Stage::Arguments),
+    };
     let given = given(random, kind);
     let length = match kind {
         5 => event_length(random, left(state)),
@@ -133,7 +136,7 @@ fn function(random: &mut Random) -> Given {
 fn event_length(random: &mut Random, left: u64) -> usize {
     let room = left.saturating_sub(16);
     let length = match random.below(9) {
-        5.. if room >= WIDE => random.below(200),
+        2.. if room >= WIDE => random.below(room + 1) >> random.below(20),
         0 => room,
         1 => room + 1,
         2 => random.below(room + 1),
