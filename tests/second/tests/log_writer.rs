@@ -1,0 +1,293 @@
+//! The log writer: Paper 01, "Writer and comparison". Which states accepted
+//! calls return is searched through for small outputs.
+
+use second::log_writer::{add, close, is_returned, open, start};
+use second::log_writer::{Opening, Start, State, GREATEST_BUFFER as GREATEST};
+use second::record::Record;
+use second::walk::{walk, Outcome, Stage};
+use second::writer::LEAST_BAD_ID;
+use std::collections::HashSet;
+
+const STAGES: [Stage; 5] = [
+    Stage::Between,
+    Stage::WallTime,
+    Stage::Cpu,
+    Stage::Body,
+    Stage::Arguments,
+];
+
+const OPENING: Opening = Opening {
+    seconds: 0,
+    micros: 0,
+    cpu: 0,
+    tsc: 1000,
+};
+
+const EVENT: Record = Record::CustomEvent { size: 0, tsc: 1 };
+const ARGUMENT: Record = Record::CallArgument { argument: 9 };
+
+fn begin(size: u64, thread: u16) -> Start {
+    Start {
+        frequency: 1_000_000_000,
+        constant_tsc: true,
+        nonstop_tsc: true,
+        size,
+        thread,
+    }
+}
+
+fn function(action: u8, id: u32, delta: u32) -> Record {
+    Record::Function { action, id, delta }
+}
+
+/// What tells states of one size and thread apart.
+fn key(state: &State) -> (u64, u64, usize) {
+    (state.place, state.end, state.stage as usize)
+}
+
+/// A record of every kind, and of every action.
+fn records() -> Vec<Record> {
+    let mut records: Vec<Record> = (0..5).map(|action| function(action, 1, 1)).collect();
+    records.extend(OPENING.records(7));
+    records.extend([Record::EndOfBuffer, ARGUMENT, Record::TscWrap { tsc: 1 }]);
+    records
+}
+
+/// What every call answers in this state, with events of every length up to
+/// one that no buffer has room for.
+fn answers(state: State, out: &mut [u8]) -> Vec<Result<State, u8>> {
+    let mut answers = vec![open(state, &OPENING, out), close(state, out)];
+    for record in records() {
+        answers.push(add(state, &record, &[], out));
+    }
+    let longest = state.end.saturating_sub(state.place) as usize + 1;
+    let event = vec![0; longest];
+    for length in 0..=longest {
+        answers.push(add(state, &EVENT, &event[..length], out));
+    }
+    answers
+}
+
+/// Every state that accepted calls return from a start with this size and
+/// thread, on an output of this length.
+fn returned(size: u64, thread: u16, length: usize) -> HashSet<(u64, u64, usize)> {
+    let out = &mut vec![0; length];
+    let mut seen = HashSet::new();
+    let mut next: Vec<State> = start(&begin(size, thread), out).into_iter().collect();
+    while let Some(state) = next.pop() {
+        if seen.insert(key(&state)) {
+            next.extend(answers(state, out).into_iter().flatten());
+        }
+    }
+    seen
+}
+
+/// Compares the decision with the search, for every place, end and stage up to
+/// some past the output.
+fn compare(size: u64, thread: u16, length: usize) -> usize {
+    let returned = returned(size, thread, length);
+    let past = length as u64 + 20;
+    let mut decided = 0;
+    for end in 0..past {
+        for place in 0..past {
+            for stage in STAGES {
+                let state = State {
+                    size,
+                    thread,
+                    place,
+                    end,
+                    stage,
+                };
+                if is_returned(&state, length as u64) {
+                    assert!(returned.contains(&key(&state)), "{state:?} in {length}");
+                    decided += 1;
+                }
+            }
+        }
+    }
+    assert_eq!(decided, returned.len(), "size {size}, length {length}");
+    decided
+}
+
+#[test]
+fn returned_states_of_small_buffers() {
+    let mut states = 0;
+    for length in 0..=300 {
+        for size in 60..=100 {
+            states += compare(size, 7, length);
+        }
+    }
+    println!("{states} states");
+    assert!(states > 100_000);
+}
+
+#[test]
+fn returned_states_of_larger_buffers() {
+    for size in [101, 112, 128, 134, 135, 200, 260, 268, 269] {
+        for length in (32..=300).step_by(9).chain([166, 167, 299, 300]) {
+            assert!(compare(size, 65_535, length) > 0);
+        }
+    }
+}
+
+#[test]
+fn sizes_without_a_state() {
+    for size in [0, 1, 62, 63, GREATEST + 1, 1 << 32, u64::MAX - 31, u64::MAX] {
+        for length in [0, 31, 32, 96, 300] {
+            assert_eq!(compare(size, 0, length), 0);
+        }
+    }
+}
+
+#[test]
+fn states_far_away() {
+    let edges = [u64::MAX, u64::MAX - 1, u64::MAX - 63, 1 << 63, 1 << 32, 0];
+    for place in edges {
+        for end in edges {
+            for size in edges.into_iter().chain([64, GREATEST]) {
+                for stage in STAGES {
+                    let state = State {
+                        size,
+                        thread: 0,
+                        place,
+                        end,
+                        stage,
+                    };
+                    assert!(!is_returned(&state, u64::MAX), "{state:?}");
+                }
+            }
+        }
+    }
+}
+
+#[test]
+fn states_at_the_greatest_length() {
+    let state = |size, place, end, stage| State {
+        size,
+        thread: 0,
+        place,
+        end,
+        stage,
+    };
+    let top = 16_777_216;
+    for length in [top, top + 1, u64::MAX] {
+        let one = |place, end, stage| is_returned(&state(GREATEST, place, end, stage), length);
+        assert!(one(32, 32, Stage::Between) && one(top, top, Stage::Between));
+        assert!(one(80, top, Stage::Body) && one(top - 16, top, Stage::Arguments));
+        assert!(!one(top - 15, top, Stage::Body));
+        // A second buffer would pass 16,777,216 bytes.
+        assert!(!one(top + 48, top + GREATEST, Stage::Body));
+        let half = |place, size| is_returned(&state(size, place, place, Stage::Between), length);
+        assert!(half(top, GREATEST / 2) && !half(top + 2, GREATEST / 2 + 1));
+    }
+    assert!(!is_returned(
+        &state(GREATEST, top, top, Stage::Between),
+        top - 1
+    ));
+    assert!(is_returned(
+        &state(GREATEST, 32, 32, Stage::Between),
+        top - 1
+    ));
+}
+
+/// Sample B: Paper 01, "Sample logs".
+#[test]
+fn sample_b() {
+    let out = &mut [0xEE; 140];
+    let mut state = start(&begin(96, 7), out).unwrap();
+    state = open(state, &OPENING, out).unwrap();
+    state = add(state, &function(0, 5, 10), &[], out).unwrap();
+    state = add(state, &function(1, 5, 30), &[], out).unwrap();
+    state = close(state, out).unwrap();
+    assert_eq!(key(&state), (128, 128, 0));
+    let path = concat!(env!("CARGO_MANIFEST_DIR"), "/../../samples/b.fdr");
+    assert_eq!(out[..128], std::fs::read(path).unwrap());
+    assert_eq!(out[128..], [0xEE; 12]);
+}
+
+#[test]
+fn starting() {
+    let out = &mut [7; 33];
+    assert_eq!(start(&begin(63, 0), &mut out[..31]), Err(16));
+    assert_eq!(start(&begin(GREATEST + 1, 0), out), Err(16));
+    assert_eq!(start(&begin(64, 0), &mut out[..31]), Err(15));
+    assert_eq!(out, &[7; 33]);
+    assert!(start(&begin(GREATEST, 0), &mut out[..32]).is_ok());
+    let given = Start {
+        frequency: 0x0807_0605_0403_0201,
+        constant_tsc: false,
+        ..begin(64, 9)
+    };
+    let state = start(&given, out).unwrap();
+    assert_eq!(
+        (state.size, state.thread, key(&state)),
+        (64, 9, (32, 32, 0))
+    );
+    let fields = [1, 0, 1, 0, 2, 0, 0, 0, 1, 2, 3, 4, 5, 6, 7, 8, 64];
+    assert_eq!(out[..17], fields);
+    assert_eq!(out[17..], [[0; 15].as_slice(), &[7]].concat());
+}
+
+#[test]
+fn the_order_of_tests() {
+    let out = &mut [0; 96];
+    let begun = start(&begin(64, 0), out).unwrap();
+    let opened = open(begun, &OPENING, out).unwrap();
+    let written = *out;
+    let large = |action| function(action, LEAST_BAD_ID, 0);
+    assert_eq!(open(opened, &OPENING, out), Err(7));
+    assert_eq!(add(begun, &large(0), &[], out), Err(7));
+    assert_eq!(close(begun, out), Err(7));
+    assert_eq!(add(opened, &large(4), &[], out), Err(7));
+    assert_eq!(add(opened, &ARGUMENT, &[], out), Err(7));
+    assert_eq!(add(opened, &large(3), &[], out), Err(16));
+    assert_eq!(
+        add(opened, &function(3, LEAST_BAD_ID - 1, 0), &[], out),
+        Err(15)
+    );
+    assert_eq!(add(opened, &EVENT, &[], out), Err(15));
+    assert_eq!(open(begun, &OPENING, &mut out[..95]), Err(15));
+    assert_eq!(add(opened, &EVENT, &[], &mut out[..95]), Err(7));
+    assert_eq!(*out, written);
+    let closed = close(opened, out).unwrap();
+    assert_eq!(open(closed, &OPENING, out), Err(15));
+}
+
+/// 16 bytes for EndOfBuffer remain behind every record and its event.
+#[test]
+fn room_for_the_end() {
+    let out = &mut [0xFF; 32 + 103];
+    let state = start(&begin(103, 0), out).unwrap();
+    let state = open(state, &OPENING, out).unwrap();
+    assert_eq!(add(state, &EVENT, &[5; 24], out), Err(15));
+    let full = add(state, &EVENT, &[5; 23], out).unwrap();
+    assert_eq!(key(&full), (119, 135, Stage::Body as usize));
+    assert!(records()
+        .iter()
+        .all(|record| add(full, record, &[], out).is_err()));
+    close(full, out).unwrap();
+    let (items, outcome) = walk(out);
+    assert_eq!((items.len(), outcome), (5, Outcome::Done));
+}
+
+#[test]
+fn runs_of_arguments() {
+    let out = &mut [0; 400];
+    let state = start(&begin(300, 0), out).unwrap();
+    let mut state = open(state, &OPENING, out).unwrap();
+    for (record, taken) in [
+        (function(0, 1, 0), false),
+        (function(3, 1, 0), true),
+        (ARGUMENT, true),
+        (EVENT, false),
+        (function(3, 1, 0), true),
+        (function(1, 1, 0), false),
+        (function(2, 1, 0), false),
+        (Record::NewCpuId { cpu: 0, tsc: 0 }, false),
+        (Record::TscWrap { tsc: 0 }, false),
+    ] {
+        state = add(state, &record, &[], out).unwrap();
+        let expected = if taken { None } else { Some(7) };
+        assert_eq!(add(state, &ARGUMENT, &[], out).err(), expected);
+    }
+}
