@@ -12,7 +12,8 @@ use Rattle.fdr.specs.declared.record.Record.{Record}
 use Rattle.fdr.specs.declared.record.Record.the-variants.{Function, NewBuffer, EndOfBuffer, NewCpuId, TscWrap, WallTime, CustomEvent, CallArgument}
 use Rattle.replay.specs.Replay.{Verdict, report, refusal}
 use Rattle.scrub.specs.Scrub.{Scrubbing, scrubbed}
-use Rattle.probe.specs.Numbers.{scrubbingNumbers, verdictNumbers, writingNumbers, recordOf, recordNumbers, openingNumbers, readingNumbers, steppingNumbers}
+use Rattle.log_writer.specs.Start.{Outcome}
+use Rattle.probe.specs.Numbers.{scrubbingNumbers, outcomeNumbers, verdictNumbers, writingNumbers, recordOf, recordNumbers, openingNumbers, readingNumbers, steppingNumbers}
 
 -- The first four of a list.
 abbrev pub four : List ℕ → List ℕ
@@ -71,6 +72,10 @@ function-of (suc (suc (suc (suc (suc (suc (suc k))))))) a b c e0 e1 e2 e3 e4 e5 
 pub scrubbing-long : (x : Scrubbing) → length (scrubbingNumbers x) ≡ 2
 scrubbing-long scrubbed = refl
 scrubbing-long (Scrubbing.refused n place) = refl
+
+pub outcome-long : (x : Outcome) → length (outcomeNumbers x) ≡ 6
+outcome-long (Outcome.went w) = refl
+outcome-long (Outcome.denied n) = refl
 
 -- Past its end a list reads as 0.
 pub past : (l : List ℕ) (n i : ℕ) → length l ≡ n → n ≤ i → 0 ≡ getD l i 0

@@ -220,14 +220,18 @@ fn outcome_numbers(answer: log_writer::Answer) -> [u64; 6]
     ensures { λ r. ⌜ r ≡ outcomeNumbers (outcomeOf answer) ⌝ }
 {
     match answer {
-        log_writer::Answer::Went(w) => [
-            0,
-            w.size as u64,
-            w.thread as u64,
-            w.place as u64,
-            w.end as u64,
-            stage_number(w.stage),
-        ],
+        log_writer::Answer::Went(w) => {
+            let at_stage = w.stage;
+            let stage = stage_number(at_stage);
+            [
+                0,
+                w.size as u64,
+                w.thread as u64,
+                w.place as u64,
+                w.end as u64,
+                stage,
+            ]
+        }
         log_writer::Answer::Refused(refusal) => [refusal.number(), 0, 0, 0, 0, 0],
     }
 }

@@ -1,0 +1,43 @@
+-- `probe::list::outcome_numbers` meets its contract: case by case. Assumes nothing.
+use Rattle.probe.specs.Numbers.{outcomeNumbers}
+use Rattle.log_writer.specs.declared.Answer.{Answer}
+use Rattle.log_writer.specs.Start.{outcomeOf}
+use mathlib.Core.List.{[], _∷_}
+use Prim.Native.Nat.{ℕ}
+use mathlib.Core.Path.{sym, ap, _∙_}
+use borrow.Author.Needs.{needs}
+use Rattle.probe.proofs.list.outcome_numbers.Statement.{statement}
+use Rattle.probe.proofs.list.outcome_numbers.Tie as tie
+
+enum-known-answer : tie.Need-enum-known-answer
+enum-known-answer c = search needs
+
+stage-number-requires : tie.Need-stage-number-requires
+stage-number-requires c κs = search needs
+
+cast-t8 : tie.Need-cast-t8
+cast-t8 c = search needs
+
+enum-known-answer-2 : tie.Need-enum-known-answer-2
+enum-known-answer-2 c = search needs
+
+number-requires : tie.Need-number-requires
+number-requires c κs = search needs
+
+returns : tie.Need-returns
+returns c = ap (λ (n : ℕ). 0 ∷ c .before .before .before .answer .given .0 .0 .size ∷ c .before .before .before .answer .given .0 .0 .thread ∷ c .before .before .before .answer .given .0 .0 .place ∷ c .before .before .before .answer .given .0 .0 .end ∷ n ∷ []) (c .before .stage-number .ensures) ∙ sym (ap (λ (x : Answer). outcomeNumbers (outcomeOf x)) (c .before .before .before .answer .given .1))
+
+returns-2 : tie.Need-returns-2
+returns-2 c = ap (λ (n : ℕ). n ∷ 0 ∷ 0 ∷ 0 ∷ 0 ∷ 0 ∷ []) (c .number .ensures) ∙ sym (ap (λ (x : Answer). outcomeNumbers (outcomeOf x)) (c .before .before .answer2 .given .1))
+
+pub outcome-numbers-spec : {M : Type 1} → statement M
+outcome-numbers-spec =
+    tie.close
+    (tie.spec
+    enum-known-answer
+    stage-number-requires
+    cast-t8
+    enum-known-answer-2
+    number-requires
+    returns
+    returns-2)

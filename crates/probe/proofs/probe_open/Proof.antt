@@ -1,0 +1,50 @@
+-- `probe::probe_open` meets its contract: one number of the writer's answer. Assumes nothing.
+use Rattle.probe.specs.Numbers.{outcomeNumbers}
+use Rattle.log_writer.specs.Start.{Outcome}
+use Rattle.log_writer.specs.declared.Writer.{Writer}
+use Rattle.log_writer.specs.Call.{opening, called, outputCalled}
+use lib.ListN.{length, getD}
+use mathlib.Core.List.{List}
+use Prim.Native.Nat.{ℕ, _%_, _^_}
+use mathlib.Core.Path.{ap, _∙_}
+use borrow.Author.Needs.{needs}
+use Rattle.probe.proofs.probe_open.Statement.{statement}
+use Rattle.probe.proofs.probe_open.Tie as tie
+
+writer-of-requires : tie.Need-writer-of-requires
+writer-of-requires c κs = search needs
+
+cast-parts : tie.Need-cast-parts
+cast-parts c = search needs
+
+cast-core : tie.Need-cast-core
+cast-core c = search needs
+
+open-requires : tie.Need-open-requires
+open-requires c κs = search needs
+
+answered-requires : tie.Need-answered-requires
+answered-requires c κs = search needs
+
+same-length : tie.Need-same-length
+same-length c = search needs
+
+returns : tie.Need-returns
+returns c =
+    let out : List ℕ = c .before .before .before .before .before .before .before .args .out .now in
+    let w = c .before .before .before .before .before .writer-of .ensures in
+    let answers = c .before .before .before .«open» .ensures .0 ∙ ap (λ (x : Writer). called x (opening (c .before .before .before .before .before .before .before .args .seconds) (c .before .before .before .before .before .before .before .args .micros % 2 ^ 32) (c .before .before .before .before .before .before .before .args .cpu % 2 ^ 16) (c .before .before .before .before .before .before .before .args .tsc)) (length out)) w in
+    let leaves = c .before .before .before .«open» .ensures .1 ∙ ap (λ (x : Writer). outputCalled x (opening (c .before .before .before .before .before .before .before .args .seconds) (c .before .before .before .before .before .before .before .args .micros % 2 ^ 32) (c .before .before .before .before .before .before .before .args .cpu % 2 ^ 16) (c .before .before .before .before .before .before .before .args .tsc)) out) w in
+    (c .answered .ensures ∙ ap (λ (x : Outcome). getD (outcomeNumbers x) (c .before .before .before .before .before .before .before .args .which) 0) answers, leaves)
+
+pub probe-open-spec : {M : Type 1} → statement M
+probe-open-spec =
+    tie.close
+    (tie.spec
+    writer-of-requires
+    cast-parts
+    cast-core
+    open-requires
+    answered-requires
+    same-length
+    returns)
