@@ -37,9 +37,11 @@ fn somewhere(random: &mut Random, length: u64) -> At {
     };
     let end = size.wrapping_mul(buffers).wrapping_add(32);
     let stage = random.one_of(&[0, 3, 3, 4, 4, 1, 2]);
-    let offset = match random.below(3) {
-        0 => size.wrapping_sub(random.below(24)),
-        1 => 44 + random.below(32),
+    let offset = match random.below(6) {
+        0 | 1 => size.wrapping_sub(random.below(24)),
+        2 | 3 => 44 + random.below(32),
+        // Behind NewBuffer or behind WallTimeMarker.
+        4 => 16 * random.below(4),
         _ => random.below(size),
     };
     let place = match stage {
