@@ -19,7 +19,7 @@ use Rattle.fdr.proofs.Tracing.{trace-passed}
 use Rattle.log_writer.specs.declared.Writer.{Writer}
 use Rattle.log_writer.specs.Start.{Outcome, went, denied, put, started, outputStarted}
 use Rattle.log_writer.specs.Session.{Entry, stateIn, outputIn, acceptedIn}
-use Rattle.demands.specs.Demand2.{entriesIn, Holds, WrittenLog}
+use Rattle.demands.specs.Demand2.{entriesIn, ReadsAs, WrittenLog}
 use Rattle.log_writer.proofs.Putting.{length-put, put-there}
 use Rattle.log_writer.proofs.Accepting.{Began, began}
 use Rattle.demands.proofs.Passing.{Passes, stays, over-there}
@@ -62,7 +62,7 @@ module _ (frequency : ℕ) (constant nonstop : Bool) (size : ℕ) where
   -- The end, in front of a buffer.
   module _ (room : ℕ) (w : Writer) (out : List ℕ) (entries : List Entry) (few : frequency < 2 ^ 64) (least : 64 ≤ size) (most : size ≤ 16777184)
       (h : Written bytes size room w out entries) (between : w .stage ≡ Between) where
-    closes-log : Holds frequency constant nonstop size entries (take (w .place) out)
+    closes-log : ReadsAs frequency constant nonstop size entries (take (w .place) out)
     unfolding entriesIn finished
     closes-log =
         let s : List ℕ = take (w .place) out in

@@ -1,5 +1,5 @@
--- Demand 2's round trip: "What the writer accepts is read back as the same records" (paper 01, "Writer and comparison").
--- Assumes nothing.
+-- Demand 2's round trip: "What the writer accepts is read back as the same records" (README.md, "What is proved"; paper
+-- 01, "Writer and comparison"). Assumes nothing.
 use Prim.Native.Nat.{ℕ, _+_, _^_, _<_}
 use mathlib.Core.Path.{_≡_}
 use mathlib.Core.Bool.{Bool, true, cond}
@@ -21,7 +21,7 @@ entriesIn s done = []
 entriesIn s (refusedAt n place) = []
 
 -- "a well-formed log whose records are those accepted, in order", with the header that the start fixed.
-pub record Holds (frequency : ℕ) (constant nonstop : Bool) (size : ℕ) (accepted : List Entry) (log : List ℕ) : Type 0 where
+pub record ReadsAs (frequency : ℕ) (constant nonstop : Bool) (size : ℕ) (accepted : List Entry) (log : List ℕ) : Type 0 where
   pub formed : wellFormed log ≡ true
   pub header : openedWithin longest log ≡ passed (record { «constant_tsc» = cond constant 1 0; «nonstop_tsc» = cond nonstop 1 0; frequency = frequency; «buffer_size» = size })
   pub records : entriesIn log (trace log) ≡ accepted
@@ -32,4 +32,4 @@ abbrev pub WrittenLog : Type 0
 WrittenLog = (frequency : ℕ) (constant nonstop : Bool) (size thread : ℕ) (out : List ℕ) (first : Writer) (calls : List Call)
     → frequency < 2 ^ 64 → thread < 2 ^ 16 → started size thread (length out) ≡ went first → TypedCalls calls
     → stateIn (length out) first calls .stage ≡ Between
-    → Holds frequency constant nonstop size (acceptedIn (length out) first calls) (take (stateIn (length out) first calls .place) (outputIn first calls (outputStarted frequency constant nonstop size thread out)))
+    → ReadsAs frequency constant nonstop size (acceptedIn (length out) first calls) (take (stateIn (length out) first calls .place) (outputIn first calls (outputStarted frequency constant nonstop size thread out)))

@@ -2,6 +2,7 @@
 -- comparison. Each replay is lent 6,145 numbers, all 7. Assumes nothing.
 use Prim.Native.Nat.{ℕ, _+_, _-_, _^_}
 use mathlib.Core.Path.{_≡_, refl}
+use mathlib.Core.Bool.{true}
 use mathlib.Core.List.{List, [], _∷_, _++_}
 use lib.ListN.{length, take, drop, replicate}
 use Rattle.fdr.specs.Number.{number, bytesOf, zeros}
@@ -11,7 +12,8 @@ use Rattle.fdr.specs.Reading.{sizeTest, recordAt}
 use Rattle.fdr.specs.Walk.{stepIn, next}
 use Rattle.fdr.specs.Trace.{walked, traceFrom, traceWithin, finished}
 use Rattle.fdr.specs.Hidden.{hiddenIn, hidden}
-use Rattle.fdr.specs.Writing.{metadataBytes, functionBytes}
+use Rattle.fdr.specs.Writing.{metadataBytes, functionBytes, recordBytes, bytesFor}
+use Rattle.fdr.specs.Writing.{headerBytes as headerBytesOf}
 use Rattle.fdr.specs.Sample.{headerBytes, cpuBytes, logBytes, sampleB, sampleWrongExit, sampleAbandoned, sampleBackward, sampleNested, sampleShortest, sampleTooShort, sampleClock, sampleArgument}
 use Rattle.replay.specs.Row.{rowOf, flat, tableOf}
 use Rattle.replay.specs.Row.{zeros as blanks}
@@ -19,6 +21,12 @@ use Rattle.replay.specs.Stack.{nearest, abandonAll}
 use Rattle.replay.specs.Step.{enteredIn, entered, closed, leftTo, left, called, moved, step}
 use Rattle.replay.specs.Replay.{report, refusal, countsOf, replayed, meaning, recordsIn, buffersIn, answer, tableAfter}
 use Rattle.scrub.specs.Scrub.{scrubbed, ending, scrubbing, zeroedFrom, bytesAfter}
+use Rattle.log_writer.specs.Start.{fresh, put, started, outputStarted}
+use Rattle.log_writer.specs.State.{reachable, inBuffer, standing, sound}
+use Rattle.log_writer.specs.Call.{Call, opening, adding, closing, stageAfter, takes, callBytes, stateAfter, callTests, outputCalled}
+use Rattle.log_writer.specs.Call.{called as calledOn}
+use Rattle.log_writer.specs.Session.{outputIn}
+use Rattle.fdr.specs.declared.record.Record.the-variants.{Function}
 use Rattle.compare.specs.Sample.{Comparisons, comparisons}
 
 unfoldable pub lent : List ℕ
@@ -93,3 +101,11 @@ dirtyB = filled 24 8 (filled 35 13 (filled 61 3 (filled 75 5 (filled 97 31 sampl
 pub scrubbedB : (scrubbing dirtyB ≡ scrubbed) × (bytesAfter dirtyB ≡ sampleB)
 unfolding filled dirtyB zeros bytesOf headerBytes metadataBytes functionBytes cpuBytes logBytes sampleB number functionAt metadataAt decoded headerOf headerTests openedWithin sizeTest recordAt stepIn next walked traceFrom traceWithin finished hiddenIn hidden ending zeroedFrom bytesAfter
 scrubbedB = (refl, refl)
+
+-- B written by the log writer, into an output of 128 bytes of 7.
+abbrev pub callsOfB : List Call
+callsOfB = opening 0 0 0 1000 ∷ adding (Function 0 5 10) [] ∷ adding (Function 1 5 30) [] ∷ closing ∷ []
+
+pub writtenB : outputIn (fresh 96 7) callsOfB (outputStarted 1000000000 true true 96 7 (replicate 128 7)) ≡ sampleB
+unfolding zeros bytesOf headerBytes metadataBytes functionBytes recordBytes bytesFor cpuBytes logBytes sampleB headerBytesOf put started outputStarted reachable inBuffer standing sound stageAfter takes callBytes stateAfter callTests calledOn outputCalled outputIn
+writtenB = refl
