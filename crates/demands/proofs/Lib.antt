@@ -6,3 +6,4 @@ pub mod Calls
 pub mod Sessions
 pub mod Heading
 pub mod WrittenLog
+pub mod Demand2

@@ -8,6 +8,7 @@ use lib.ListN.{length, take, drop}
 use Rattle.fdr.specs.Record.{sizeOf, eventSize}
 use Rattle.fdr.specs.Header.{passed, openedWithin, longest}
 use Rattle.fdr.specs.Trace.{Trace, item, done, refusedAt, trace, wellFormed}
+use Rattle.fdr.specs.RoundTrip.{RoundTrips}
 use Rattle.fdr.specs.declared.grammar.Stage.the-variants.{Between}
 use Rattle.log_writer.specs.declared.Writer.{Writer}
 use Rattle.log_writer.specs.Start.{went, started, outputStarted}
@@ -33,3 +34,8 @@ WrittenLog = (frequency : ℕ) (constant nonstop : Bool) (size thread : ℕ) (ou
     → frequency < 2 ^ 64 → thread < 2 ^ 16 → started size thread (length out) ≡ went first → TypedCalls calls
     → stateIn (length out) first calls .stage ≡ Between
     → ReadsAs frequency constant nonstop size (acceptedIn (length out) first calls) (take (stateIn (length out) first calls .place) (outputIn first calls (outputStarted frequency constant nonstop size thread out)))
+
+-- Both round trips: of a log, and of one record, "read and written again" and written and read (crate `fdr`).
+pub record Demand2 : Type 0 where
+  pub logs : WrittenLog
+  pub records : RoundTrips

@@ -1,0 +1,7 @@
+-- Demand 2's round trips, proved. Assumes nothing.
+use Rattle.fdr.proofs.Rewriting.{roundTrips}
+use Rattle.demands.specs.Demand2.{Demand2}
+use Rattle.demands.proofs.WrittenLog.{writtenLog}
+
+pub demand2 : Demand2
+demand2 = record { logs = writtenLog; records = roundTrips }
