@@ -1,4 +1,5 @@
-// The reader, the writers, the walk, the replay and the scrubber on numbers and byte slices, for tests and benchmarks in other languages.
+// The reader, the walk, the replay, the scrubber, the record writer and the log writer on numbers and byte slices, for
+// tests and benchmarks in other languages.
 // Each function answers one number, the `which`-th of its answer written as a list (specs/Numbers.antt),
 // and 0 past the list's end.
 mod list;

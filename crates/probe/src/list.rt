@@ -1,4 +1,4 @@
-// Answers as lists of numbers, and positions from numbers.
+// Answers as lists of numbers, and positions, records and a writer's states from numbers.
 ghost use mathlib.Core.Path.{_≡_};
 ghost use Rattle.fdr.specs.Header.{openingOf};
 ghost use Rattle.fdr.specs.Reading.{readingOf};

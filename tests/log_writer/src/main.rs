@@ -1,7 +1,8 @@
 //! Compares the proved log writer with the second one, on sequences of calls in
 //! the states that they return and in others, and reads back what was written.
 //!
-//! With `--llvm`, some logs are then read by LLVM too.
+//! With `--llvm`, some logs are then read by LLVM too, where `llvm-xray` is
+//! installed.
 //!
 //! `log-writer-differential [SEQUENCES] [--seed SEED] [--llvm]`
 

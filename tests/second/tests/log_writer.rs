@@ -45,7 +45,7 @@ fn key(state: &State) -> (u64, u64, usize) {
     (state.place, state.end, state.stage as usize)
 }
 
-/// A record of every kind, and of every action.
+/// A record of every kind but an event, with actions 0 to 4.
 fn records() -> Vec<Record> {
     let mut records: Vec<Record> = (0..5).map(|action| function(action, 1, 1)).collect();
     records.extend(OPENING.records(7));
