@@ -1,6 +1,6 @@
 -- The starred samples (paper 01, "Sample logs") as a single statement about the definitions of replay and of the
 -- comparison. Each replay is lent 6,145 numbers, all 7. Assumes nothing.
-use Prim.Native.Nat.{ℕ, _+_, _-_, _^_}
+use Prim.Native.Nat.{ℕ, _+_, _-_}
 use mathlib.Core.Path.{_≡_, refl}
 use mathlib.Core.Bool.{true}
 use mathlib.Core.List.{List, [], _∷_, _++_}
