@@ -1,5 +1,6 @@
-# `make run` proves and builds, and replays a sample. `make test` runs every test.
-.PHONY: run test
+# `make run` proves and builds, and replays a sample. `make test` runs every test. `make host` proves and builds the
+# scrubber and the comparison for the shell.
+.PHONY: run test host
 
 run:
 	rt check replay_stdin
@@ -7,3 +8,7 @@ run:
 
 test:
 	@tests/run
+
+host:
+	rt staticlib towercloak
+	host/build
