@@ -1,6 +1,7 @@
-# `make run` proves and builds, and replays a sample. `make test` runs every test. `make host` proves and builds the
-# scrubber and the comparison for the shell.
-.PHONY: run test host
+# `make run` proves and builds, and replays a sample. `make test` runs every test. `make fuzz` runs
+# the suites with fresh seeds until it is stopped or one finds a difference. `make host` proves and builds the scrubber and
+# the comparison for the shell.
+.PHONY: run test fuzz host
 
 run:
 	rt check replay_stdin
@@ -8,6 +9,11 @@ run:
 
 test:
 	@tests/run
+
+fuzz:
+	rt staticlib towercloak
+	rt staticlib probe
+	@tests/fuzz
 
 host:
 	rt staticlib towercloak

@@ -1,7 +1,7 @@
 //! Compares the proved comparison of two times with the second one, on
 //! generated pairs of sides, each as it is and exchanged.
 //!
-//! `compare-differential [PAIRS]`
+//! `compare-differential [PAIRS] [--seed SEED]`
 
 #![deny(unsafe_code)]
 
@@ -13,18 +13,29 @@ mod proved;
 
 use counts::Counts;
 use pairs::{Kind, Pair};
+use second::arguments;
 use std::process::ExitCode;
 
 /// Pairs where no number is given.
 const PAIRS: u64 = 1_200_000;
 
-fn number_of_pairs() -> Result<u64, String> {
-    match std::env::args().nth(1) {
-        None => Ok(PAIRS),
-        Some(argument) => argument
-            .parse()
-            .map_err(|_| format!("not a number of pairs: {argument}")),
+struct Arguments {
+    pairs: u64,
+    seed: u64,
+}
+
+fn arguments() -> Result<Arguments, String> {
+    let (mut pairs, mut seed) = (PAIRS, 0);
+    let mut given = std::env::args().skip(1);
+    while let Some(argument) = given.next() {
+        if argument == "--seed" {
+            seed = arguments::seed(&mut given)?;
+        } else {
+            let number = arguments::number(&argument);
+            pairs = number.ok_or(format!("not a number of pairs: {argument}"))?;
+        }
     }
+    Ok(Arguments { pairs, seed })
 }
 
 /// What the exchanged pair must be answered.
@@ -50,10 +61,10 @@ fn answer(pair: Pair) -> Result<u32, String> {
 }
 
 /// One pair as it is and exchanged.
-fn compare(index: u64, counts: &mut Counts) -> Result<(), String> {
+fn compare(index: u64, seed: u64, counts: &mut Counts) -> Result<(), String> {
     let kind = Kind::at(index);
-    let pair = pairs::pair(index);
-    let named = |text: String| format!("pair {index}, kind {kind:?}: {text}");
+    let pair = pairs::pair(index, seed);
+    let named = |text: String| format!("--seed {seed:#018x}, pair {index}, kind {kind:?}: {text}");
     let straight = answer(pair).map_err(named)?;
     let exchanged = answer(pair.exchanged()).map_err(|text| named(format!("exchanged: {text}")))?;
     if exchanged != mirrored(straight) {
@@ -67,10 +78,10 @@ fn compare(index: u64, counts: &mut Counts) -> Result<(), String> {
 }
 
 fn run() -> Result<u64, String> {
-    let pairs = number_of_pairs()?;
+    let Arguments { pairs, seed } = arguments()?;
     let mut counts = Counts::new();
     for index in 0..pairs {
-        compare(index, &mut counts)?;
+        compare(index, seed, &mut counts)?;
     }
     counts.print();
     let missing = counts.missing();

@@ -80,9 +80,9 @@ impl Pair {
     }
 }
 
-/// The pair with this index in a run.
-pub fn pair(index: u64) -> Pair {
-    let random = &mut Random::new(index);
+/// The pair with this index in a run with this seed.
+pub fn pair(index: u64, seed: u64) -> Pair {
+    let random = &mut Random::new(seed.wrapping_add(index));
     let kind = Kind::at(index);
     let pair = match kind {
         Kind::Random => of_sides(random, any_side),

@@ -1,7 +1,7 @@
 //! Compares the proved reading of logs with the second one, on generated logs
 //! and on samples, and the proved record writer with the second one.
 //!
-//! `differential [INPUTS] [--samples DIR]`
+//! `differential [INPUTS] [--samples DIR] [--seed SEED]`
 
 #![deny(unsafe_code)]
 
@@ -14,6 +14,7 @@ mod writes;
 
 use compare::{Comparison, Difference};
 use counts::Counts;
+use second::arguments;
 use second::generate::{self, Kind};
 use second::random::Random;
 use std::path::{Path, PathBuf};
@@ -22,7 +23,8 @@ use std::process::ExitCode;
 /// Inputs where no number is given.
 const INPUTS: u64 = 120_000;
 
-/// Seeds of the first inputs; every later one is the one four before it, plus 1.
+/// Seeds of the first inputs, to which the seed given is added; every later one
+/// is the one four before it, plus 1.
 const SEEDS: [u64; 4] = [
     0x0000_0000_0000_0001,
     0x5EED_0000_0000_0000,
@@ -33,22 +35,29 @@ const SEEDS: [u64; 4] = [
 struct Arguments {
     inputs: u64,
     samples: Option<PathBuf>,
+    seed: u64,
 }
 
 fn arguments() -> Result<Arguments, String> {
     let mut inputs = INPUTS;
-    let mut samples = None;
+    let (mut samples, mut seed) = (None, 0);
     let mut given = std::env::args().skip(1);
     while let Some(argument) = given.next() {
         if argument == "--samples" {
             let folder = given.next().ok_or("--samples needs a folder")?;
             samples = Some(PathBuf::from(folder));
+        } else if argument == "--seed" {
+            seed = arguments::seed(&mut given)?;
         } else {
-            let number = argument.parse();
-            inputs = number.map_err(|_| format!("not a number of inputs: {argument}"))?;
+            let number = arguments::number(&argument);
+            inputs = number.ok_or(format!("not a number of inputs: {argument}"))?;
         }
     }
-    Ok(Arguments { inputs, samples })
+    Ok(Arguments {
+        inputs,
+        samples,
+        seed,
+    })
 }
 
 /// Compares one log; the text tells of a difference.
@@ -72,10 +81,10 @@ fn compare(log: &[u8], seed: u64, name: &str, counts: &mut Counts) -> Result<(),
     })
 }
 
-fn generated(inputs: u64, counts: &mut Counts) -> Result<(), String> {
+fn generated(inputs: u64, first: u64, counts: &mut Counts) -> Result<(), String> {
     for index in 0..inputs {
         let seeds = SEEDS.len() as u64;
-        let seed = SEEDS[(index % seeds) as usize] + index / seeds;
+        let seed = SEEDS[(index % seeds) as usize].wrapping_add(first.wrapping_add(index / seeds));
         let kind = Kind::at(index);
         let log = generate::log(kind, seed);
         compare(&log, seed, &format!("{kind:?}"), counts)?;
@@ -110,11 +119,11 @@ fn samples(folder: &Path, counts: &mut Counts) -> Result<(), String> {
 fn run() -> Result<u64, String> {
     let arguments = arguments()?;
     let mut counts = Counts::default();
-    generated(arguments.inputs, &mut counts)?;
+    generated(arguments.inputs, arguments.seed, &mut counts)?;
     if let Some(folder) = &arguments.samples {
         samples(folder, &mut counts)?;
     }
-    writes::run(arguments.inputs, &mut counts)?;
+    writes::run(arguments.inputs, arguments.seed, &mut counts)?;
     counts.print();
     let missing = counts.missing();
     if !missing.is_empty() {

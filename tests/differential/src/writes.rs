@@ -59,8 +59,8 @@ fn filled(random: &mut Random, length: usize) -> Vec<u8> {
 }
 
 /// Both writers, `tries` times; the text tells of a difference.
-pub fn run(tries: u64, counts: &mut Counts) -> Result<(), String> {
-    let mut random = Random::new(0x3217_E000);
+pub fn run(tries: u64, seed: u64, counts: &mut Counts) -> Result<(), String> {
+    let mut random = Random::new(seed.wrapping_add(0x3217_E000));
     for _ in 0..tries {
         let record = record(&mut random);
         let length = random.index(LONGEST);

@@ -24,6 +24,7 @@ mod writing;
 
 use counts::Counts;
 use plan::Kind;
+use second::arguments;
 use second::inputs::SEED;
 use second::random::Random;
 use session::Session;
@@ -43,13 +44,12 @@ fn arguments() -> Result<Arguments, String> {
     let mut given = std::env::args().skip(1);
     while let Some(argument) = given.next() {
         if argument == "--seed" {
-            let text = given.next().ok_or("--seed needs a number")?;
-            seed = number(&text).ok_or(format!("not a seed: {text}"))?;
+            seed = arguments::seed(&mut given)?;
         } else if argument == "--llvm" {
             llvm = true;
         } else {
             let wrong = format!("not a number of sequences: {argument}");
-            sequences = number(&argument).ok_or(wrong)?;
+            sequences = arguments::number(&argument).ok_or(wrong)?;
         }
     }
     Ok(Arguments {
@@ -57,14 +57,6 @@ fn arguments() -> Result<Arguments, String> {
         seed,
         llvm,
     })
-}
-
-/// A number, in decimal or as hexadecimal digits behind `0x`.
-fn number(text: &str) -> Option<u64> {
-    match text.strip_prefix("0x") {
-        Some(digits) => u64::from_str_radix(digits, 16).ok(),
-        None => text.parse().ok(),
-    }
 }
 
 /// One sequence of calls, and a record by the record writer.

@@ -2,7 +2,7 @@
 //! tables number by number, on generated logs and on the samples; and what the
 //! program prints, where one is named.
 //!
-//! `replay-differential [LOGS] [--program PATH]`
+//! `replay-differential [LOGS] [--program PATH] [--seed SEED]`
 
 #![deny(unsafe_code)]
 
@@ -14,6 +14,7 @@ mod proved;
 
 use compare::{Comparison, Difference};
 use counts::Counts;
+use second::arguments;
 use second::inputs::{self, Kind, SEED};
 use second::random::Random;
 use second::replay::TABLE;
@@ -31,22 +32,29 @@ const FIRST: [u64; 2] = [0, 1];
 struct Arguments {
     logs: u64,
     program: Option<PathBuf>,
+    seed: u64,
 }
 
 fn arguments() -> Result<Arguments, String> {
     let mut logs = LOGS;
-    let mut program = None;
+    let (mut program, mut seed) = (None, SEED);
     let mut given = std::env::args().skip(1);
     while let Some(argument) = given.next() {
         if argument == "--program" {
             let path = given.next().ok_or("--program needs a path")?;
             program = Some(PathBuf::from(path));
+        } else if argument == "--seed" {
+            seed = arguments::seed(&mut given)?;
         } else {
-            let number = argument.parse();
-            logs = number.map_err(|_| format!("not a number of logs: {argument}"))?;
+            let number = arguments::number(&argument);
+            logs = number.ok_or(format!("not a number of logs: {argument}"))?;
         }
     }
-    Ok(Arguments { logs, program })
+    Ok(Arguments {
+        logs,
+        program,
+        seed,
+    })
 }
 
 /// A run of comparisons.
@@ -73,9 +81,9 @@ impl Run {
         }
     }
 
-    fn generated(&mut self, logs: u64) -> Result<(), String> {
+    fn generated(&mut self, logs: u64, first: u64) -> Result<(), String> {
         for index in 0..logs {
-            let (kind, seed) = Kind::at(index, SEED);
+            let (kind, seed) = Kind::at(index, first);
             let random = &mut Random::new(!seed);
             let length = compare::table_length(random);
             self.compare(&kind.log(seed), length, random.once_in(4))
@@ -122,7 +130,7 @@ fn run() -> Result<u64, String> {
         comparison: Comparison::new(),
         counts: Counts::new(),
     };
-    run.generated(arguments.logs)?;
+    run.generated(arguments.logs, arguments.seed)?;
     run.samples()?;
     run.counts.print();
     let missing = run.counts.missing();

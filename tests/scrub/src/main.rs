@@ -16,6 +16,7 @@ mod replaying;
 mod scrubbing;
 
 use checks::Checks;
+use second::arguments;
 use second::calls;
 use second::inputs::{self, Kind, SEED};
 use second::random::Random;
@@ -40,21 +41,13 @@ fn arguments() -> Result<Arguments, String> {
     let mut given = std::env::args().skip(1);
     while let Some(argument) = given.next() {
         if argument == "--seed" {
-            let text = given.next().ok_or("--seed needs a number")?;
-            seed = number(&text).ok_or(format!("not a seed: {text}"))?;
+            seed = arguments::seed(&mut given)?;
         } else {
-            logs = number(&argument).ok_or(format!("not a number of logs: {argument}"))?;
+            logs =
+                arguments::number(&argument).ok_or(format!("not a number of logs: {argument}"))?;
         }
     }
     Ok(Arguments { logs, seed })
-}
-
-/// A number, in decimal or as hexadecimal digits behind `0x`.
-fn number(text: &str) -> Option<u64> {
-    match text.strip_prefix("0x") {
-        Some(digits) => u64::from_str_radix(digits, 16).ok(),
-        None => text.parse().ok(),
-    }
 }
 
 /// A run of checks.

@@ -10,6 +10,7 @@
 
 #![forbid(unsafe_code)]
 
+pub mod arguments;
 pub mod calls;
 pub mod compare;
 pub mod generate;
