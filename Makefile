@@ -13,6 +13,7 @@ test:
 fuzz:
 	rt staticlib towercloak
 	rt staticlib probe
+	rt staticlib replay_probe
 	@tests/fuzz
 
 host:

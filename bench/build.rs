@@ -1,5 +1,5 @@
 //! Links the proved code into each program: `libtowercloak.a` into `compare`
-//! and `scrub`, `libprobe.a` into `replay`. The static libraries are looked for
+//! and `scrub`, `libreplay_probe.a` into `replay`. The static libraries are looked for
 //! in the folder that `STATICLIB_DIR` names, else in the repository's
 //! `target/staticlib`.
 
@@ -9,7 +9,7 @@ use std::path::PathBuf;
 /// The programs and their libraries.
 const LINKED: [(&str, &str); 3] = [
     ("compare", "libtowercloak.a"),
-    ("replay", "libprobe.a"),
+    ("replay", "libreplay_probe.a"),
     ("scrub", "libtowercloak.a"),
 ];
 

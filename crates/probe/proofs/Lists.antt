@@ -10,10 +10,9 @@ use Rattle.fdr.specs.Writing.{Writing, wrote, denied}
 use Rattle.fdr.specs.Walk.{Stepping, over, went, stopped}
 use Rattle.fdr.specs.declared.record.Record.{Record}
 use Rattle.fdr.specs.declared.record.Record.the-variants.{Function, NewBuffer, EndOfBuffer, NewCpuId, TscWrap, WallTime, CustomEvent, CallArgument}
-use Rattle.replay.specs.Replay.{Verdict, report, refusal}
 use Rattle.scrub.specs.Scrub.{Scrubbing, scrubbed}
 use Rattle.log_writer.specs.Start.{Outcome}
-use Rattle.probe.specs.Numbers.{scrubbingNumbers, outcomeNumbers, verdictNumbers, writingNumbers, recordOf, recordNumbers, openingNumbers, readingNumbers, steppingNumbers}
+use Rattle.probe.specs.Numbers.{scrubbingNumbers, outcomeNumbers, writingNumbers, recordOf, recordNumbers, openingNumbers, readingNumbers, steppingNumbers}
 
 -- The first four of a list.
 abbrev pub four : List ℕ → List ℕ
@@ -47,10 +46,6 @@ pub stepping-long : (x : Stepping) → length (steppingNumbers x) ≡ 10
 stepping-long over = refl
 stepping-long (went r q) = omega (arith, record-long r)
 stepping-long (stopped n place) = refl
-
-pub verdict-long : (x : Verdict) → length (verdictNumbers x) ≡ 5
-verdict-long (report r b n o) = refl
-verdict-long (refusal n place) = refl
 
 pub writing-long : (x : Writing) → length (writingNumbers x) ≡ 2
 writing-long (wrote n) = refl

@@ -1,4 +1,4 @@
--- The answers of the reader, the writers, the walk, the replay and the scrubber as lists of numbers. Assumes nothing.
+-- The answers of the reader, the writers, the walk and the scrubber as lists of numbers. Assumes nothing.
 use Prim.Native.Nat.{ℕ, _%_, _^_}
 use mathlib.Core.Bool.{true, false}
 use mathlib.Core.List.{List, [], _∷_}
@@ -8,7 +8,6 @@ use Rattle.fdr.specs.Header.{Opening, passed, failed}
 use Rattle.fdr.specs.Reading.{Reading, found, refused}
 use Rattle.fdr.specs.Writing.{Writing, wrote, denied}
 use Rattle.fdr.specs.Walk.{Stepping, over, went, stopped}
-use Rattle.replay.specs.Replay.{Verdict, report, refusal}
 use Rattle.scrub.specs.Scrub.{Scrubbing, scrubbed}
 use Rattle.log_writer.specs.Start.{Outcome}
 use Rattle.log_writer.specs.declared.Writer.{Writer}
@@ -83,11 +82,6 @@ threadsOf n = elim (ltb n 65536) [ true ↦ One n | false ↦ Unseen ]
 abbrev pub positionOf : ℕ → ℕ → ℕ → ℕ → ℕ → Position
 positionOf place end size stage thread =
     record { place = place; end = end; size = size; stage = stageOf stage; threads = threadsOf thread }
-
--- 0 and the counts of rows, buffers, records and open calls, or the refusal's number and its place.
-abbrev pub verdictNumbers : Verdict → List ℕ
-verdictNumbers (report rows buffers records calls) = 0 ∷ rows ∷ buffers ∷ records ∷ calls ∷ []
-verdictNumbers (refusal n place) = n ∷ place ∷ 0 ∷ 0 ∷ 0 ∷ []
 
 -- A metadata record from its kind and its fields, each cut to its width; from any other kind a function record.
 unfoldable pub recordOf : ℕ → ℕ → ℕ → ℕ → Record

@@ -1,5 +1,5 @@
-// The reader, the walk, the replay, the scrubber, the record writer and the log writer on numbers and byte slices, for
-// tests and benchmarks in other languages.
+// The reader, the walk, the scrubber, the record writer and the log writer on numbers and byte slices, for tests in other
+// languages.
 // Each function answers one number, the `which`-th of its answer written as a list (specs/Numbers.antt),
 // and 0 past the list's end.
 mod list;
@@ -10,15 +10,13 @@ ghost use Rattle.fdr.specs.Header.{openedWithin, longest};
 ghost use Rattle.fdr.specs.Reading.{reading, eventAt};
 ghost use Rattle.fdr.specs.Walk.{next};
 ghost use Rattle.fdr.specs.Writing.{written, outputAfter};
-ghost use Rattle.probe.specs.Numbers.{openingNumbers, readingNumbers, eventNumbers, steppingNumbers, positionOf, verdictNumbers, recordOf, writingNumbers, scrubbingNumbers, writerOf, outcomeNumbers};
-ghost use Rattle.replay.specs.Replay.{answer, tableAfter};
+ghost use Rattle.probe.specs.Numbers.{openingNumbers, readingNumbers, eventNumbers, steppingNumbers, positionOf, recordOf, writingNumbers, scrubbingNumbers, writerOf, outcomeNumbers};
 ghost use Rattle.scrub.specs.Scrub.{scrubbing, bytesAfter};
 ghost use Rattle.log_writer.specs.Start.{started, outputStarted};
 ghost use Rattle.log_writer.specs.Call.{opening, adding, closing, called, outputCalled};
 ghost use mathlib.Core.Bool.{not};
 ghost use lib.Dec.{eqb};
 ghost use Prim.Native.Nat.{_%_, _^_};
-use list::answer_numbers;
 use list::answered;
 use list::opened_numbers;
 use list::position_of;
@@ -81,19 +79,6 @@ pub extern "C" fn probe_next(
     let at = position_of(place, end, size, stage, thread);
     let numbers = step_numbers(fdr::walk::next(log, at));
     if which < 10 {
-        numbers[which as usize]
-    } else {
-        0
-    }
-}
-
-#[no_mangle]
-pub extern "C" fn probe_replay(log: &[u8], table: &mut [u64], which: u64) -> u64
-    ensures { λ r. ⌜ r ≡ getD (verdictNumbers (answer (now (log .entry)) (now (table .entry)))) which 0 ⌝ }
-    ensures { λ r. ⌜ now (table .exit) ≡ tableAfter (now (log .entry)) (now (table .entry)) ⌝ }
-{
-    let numbers = answer_numbers(replay::replay(log, table));
-    if which < 5 {
         numbers[which as usize]
     } else {
         0

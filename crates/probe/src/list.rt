@@ -4,11 +4,10 @@ ghost use Rattle.fdr.specs.Header.{openingOf};
 ghost use Rattle.fdr.specs.Reading.{readingOf};
 ghost use Rattle.fdr.specs.Walk.{steppingOf};
 ghost use Rattle.fdr.specs.Writing.{writingOf};
-ghost use Rattle.replay.specs.Replay.{verdictOf};
 ghost use Rattle.scrub.specs.Scrub.{scrubbingOf};
 ghost use Rattle.log_writer.specs.Start.{outcomeOf};
 ghost use lib.ListN.{getD};
-ghost use Rattle.probe.specs.Numbers.{scrubbingNumbers, writerOf, outcomeNumbers, verdictNumbers, writingNumbers, recordOf, recordNumbers, openingNumbers, readingNumbers, steppingNumbers, stageNumber, threadNumber, stageOf, threadsOf, positionOf};
+ghost use Rattle.probe.specs.Numbers.{scrubbingNumbers, writerOf, outcomeNumbers, writingNumbers, recordOf, recordNumbers, openingNumbers, readingNumbers, steppingNumbers, stageNumber, threadNumber, stageOf, threadsOf, positionOf};
 use fdr::grammar::Stage;
 use fdr::grammar::Threads;
 use fdr::header::Opened;
@@ -18,7 +17,6 @@ use fdr::walk::Position;
 use fdr::walk::Step;
 use fdr::writer::Written;
 use log_writer::Writer;
-use replay::Answer;
 
 fn record_numbers(record: Record) -> [u64; 4]
     ensures { λ r. ⌜ r ≡ recordNumbers «record» ⌝ }
@@ -150,20 +148,6 @@ pub fn position_of(place: u64, end: u64, size: u64, stage: u64, thread: u64) -> 
         size: size as usize,
         stage: stage_of(stage),
         threads: threads_of(thread),
-    }
-}
-
-pub fn answer_numbers(answer: Answer) -> [u64; 5]
-    ensures { λ r. ⌜ r ≡ verdictNumbers (verdictOf answer) ⌝ }
-{
-    match answer {
-        Answer::Report {
-            rows,
-            buffers,
-            records,
-            open,
-        } => [0, rows, buffers, records, open],
-        Answer::Refused { refusal, place } => [refusal.number(), place, 0, 0, 0],
     }
 }
 
