@@ -16,7 +16,7 @@ event-at-requires : tie.Need-event-at-requires
 event-at-requires c κs = search needs
 
 returns : tie.Need-returns
-returns c = ap length (c .before .event-at .ensures) ∙ ap (λ (k : ℕ). getD (eventNumbers (eventAt (now (c .before .before .before .args .log)) (c .before .before .before .args .end) (c .before .before .before .args .place))) k 0) (sym (c .if1 .taken))
+returns c = ap length (c .before .event-at .ensures .0) ∙ ap (λ (k : ℕ). getD (eventNumbers (eventAt (now (c .before .before .before .args .log)) (c .before .before .before .args .end) (c .before .before .before .args .place))) k 0) (sym (c .if1 .taken))
 
 sub-i : tie.Need-sub-i
 sub-i c = search needs
@@ -29,11 +29,11 @@ cast-result c = omega (arith, c .shared-slice-known2 .given (c .before .before .
 
 returns-2 : tie.Need-returns-2
 returns-2 c = let part = eventAt (now (c .before .before .before .before .before .args .log)) (c .before .before .before .before .before .args .end) (c .before .before .before .before .before .args .place) in
-    ap (λ (l : List ℕ). getD l (c .before .before .before .before .before .args .which - 1) 0) (c .before .before .before .event-at .ensures) ∙ behind-first (length part) (c .before .before .before .before .before .args .which) part (c .before .before .if1 .left)
+    ap (λ (l : List ℕ). getD l (c .before .before .before .before .before .args .which - 1) 0) (c .before .before .before .event-at .ensures .0) ∙ behind-first (length part) (c .before .before .before .before .before .args .which) part (c .before .before .if1 .left)
 
 returns-3 : tie.Need-returns-3
 returns-3 c = let part = eventAt (now (c .before .before .before .before .args .log)) (c .before .before .before .before .args .end) (c .before .before .before .before .args .place) in
-    let long : length (c .before .before .event-at .result .now) ≡ length part = ap length (c .before .before .event-at .ensures) in
+    let long : length (c .before .before .event-at .result .now) ≡ length part = ap length (c .before .before .event-at .ensures .0) in
     past part (length part) (c .before .before .before .before .args .which - 1) refl (omega (arith, c .if2 .left)) ∙ behind-first (length part) (c .before .before .before .before .args .which) part (c .before .if1 .left)
 
 pub probe-event-spec : {M : Type 1} → statement M
