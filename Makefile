@@ -1,7 +1,7 @@
 # `make run` proves and builds, and replays a sample. `make test` runs every test. `make fuzz` runs
 # the suites with fresh seeds until it is stopped or one finds a difference. `make host` proves and builds the scrubber and
-# the comparison for the shell.
-.PHONY: run test fuzz host
+# the comparison for the shell. `make bench` measures, and needs Debian's package llvm.
+.PHONY: run test fuzz host bench
 
 run:
 	rt check replay_stdin
@@ -19,3 +19,6 @@ fuzz:
 host:
 	rt staticlib towercloak
 	host/build
+
+bench:
+	@bench/run

@@ -1,21 +1,23 @@
-//! Times one comparison of two times: the proved one and the second program's,
-//! both as calls with the same ten numbers. A call that only adds its ten
-//! numbers is timed as well, since reading and passing them is part of all
-//! three figures.
+//! Measures one comparison of two times: the proved one and the second
+//! program's, both as calls with the same ten numbers. A call that only adds
+//! its ten numbers is measured as well, since reading and passing them is part
+//! of all three figures.
 
+use bench::measure::{clock, mean, passes, Input, Program};
+use bench::process::end;
+use bench::table::{self, SECOND, TOWERCLOAK};
+use bench::{Fallible, MIB, SIZES};
 use second::compare::Side;
 use second::random::Random;
+use std::hint::black_box;
 use std::process::ExitCode;
-use std::time::{Duration, Instant};
 
-/// Pairs held in memory.
-const PAIRS: usize = 1 << 20;
-/// Times that a round goes over them.
+/// Times that a round goes over as many bytes as the largest input has.
 const PASSES: usize = 16;
-const ROUNDS: usize = 9;
 
 /// The ten numbers of a comparison, in the order of its arguments.
 type Pair = [u64; 10];
+type Call = unsafe extern "C" fn(u64, u64, u64, u64, u64, u64, u64, u64, u64, u64) -> u32;
 
 mod c {
     extern "C" {
@@ -34,7 +36,6 @@ mod c {
     }
 }
 
-#[inline(never)]
 #[allow(clippy::too_many_arguments)]
 extern "C" fn second_compare(
     frequency_a: u64,
@@ -65,7 +66,6 @@ extern "C" fn second_compare(
     second::compare::compare(a, b)
 }
 
-#[inline(never)]
 #[allow(clippy::too_many_arguments)]
 extern "C" fn sum(
     a: u64,
@@ -83,6 +83,12 @@ extern "C" fn sum(
     numbers.into_iter().fold(0, u64::wrapping_add) as u32
 }
 
+const CALLS: [(&str, Call); 3] = [
+    (TOWERCLOAK, c::towercloak_compare),
+    (SECOND, second_compare),
+    ("adding", sum),
+];
+
 /// A side of any ticks and any frequency, with a unit and a measured call.
 fn side(random: &mut Random) -> [u64; 5] {
     let closed = random.number().max(1);
@@ -91,115 +97,57 @@ fn side(random: &mut Random) -> [u64; 5] {
     [frequency, 1, closed, backward, random.number()]
 }
 
-fn pairs() -> Vec<Pair> {
+/// Pairs that take at most so many MiB.
+fn pairs(mib: usize) -> Vec<Pair> {
     let random = &mut Random::new(1);
-    let mut pairs = Vec::with_capacity(PAIRS);
-    for _ in 0..PAIRS {
+    let mut pair = || {
         let ([a, b, c, d, e], [f, g, h, i, j]) = (side(random), side(random));
-        pairs.push([a, b, c, d, e, f, g, h, i, j]);
-    }
-    pairs
+        [a, b, c, d, e, f, g, h, i, j]
+    };
+    let number = mib * MIB / size_of::<Pair>();
+    (0..number).map(|_| pair()).collect()
 }
 
-/// The time that one callee took, and a number made of all its answers.
-#[derive(Default)]
-struct Total {
-    time: Duration,
-    checksum: u64,
+/// Goes over all pairs: a number made of all answers.
+fn pass(pairs: &[Pair], call: Call) -> u64 {
+    let mut checksum = 0u64;
+    for &[a, b, c, d, e, f, g, h, i, j] in pairs {
+        // SAFETY: each function takes any numbers and touches no memory.
+        let answer = unsafe { call(a, b, c, d, e, f, g, h, i, j) };
+        checksum = checksum.wrapping_mul(3).wrapping_add(u64::from(answer));
+    }
+    checksum
 }
 
-impl Total {
-    /// Goes over all pairs once.
-    fn pass(&mut self, pairs: &[Pair], call: impl Fn(&Pair) -> u32) {
-        let start = Instant::now();
-        for pair in pairs {
-            let answer = u64::from(call(pair));
-            self.checksum = self.checksum.wrapping_mul(3).wrapping_add(answer);
-        }
-        self.time += start.elapsed();
-    }
-
-    /// Nanoseconds for one call.
-    fn each(&self) -> f64 {
-        self.time.as_nanos() as f64 / (PASSES * PAIRS) as f64
+/// The two comparisons must give the same answers.
+fn check(pairs: &[Pair]) -> Fallible<()> {
+    let [proved, second, _] = CALLS.map(|(_, call)| pass(pairs, call));
+    match proved == second {
+        true => Ok(()),
+        false => Err("the answers differ".to_string()),
     }
 }
 
-#[derive(Default)]
-struct Round {
-    proved: Total,
-    second: Total,
-    sum: Total,
-}
-
-impl Round {
-    fn proved(&mut self, pairs: &[Pair]) {
-        self.proved.pass(pairs, |&[a, b, c, d, e, f, g, h, i, j]| {
-            // SAFETY: the function takes any numbers and touches no memory.
-            unsafe { c::towercloak_compare(a, b, c, d, e, f, g, h, i, j) }
-        });
-    }
-
-    fn second(&mut self, pairs: &[Pair]) {
-        self.second.pass(pairs, |&[a, b, c, d, e, f, g, h, i, j]| {
-            second_compare(a, b, c, d, e, f, g, h, i, j)
-        });
-    }
-
-    fn sum(&mut self, pairs: &[Pair]) {
-        self.sum.pass(pairs, |&[a, b, c, d, e, f, g, h, i, j]| {
-            sum(a, b, c, d, e, f, g, h, i, j)
-        });
-    }
-
-    fn run(pairs: &[Pair]) -> Round {
-        let mut round = Round::default();
-        for pass in 0..PASSES {
-            if pass % 2 == 0 {
-                round.proved(pairs);
-                round.second(pairs);
-            } else {
-                round.second(pairs);
-                round.proved(pairs);
-            }
-            round.sum(pairs);
-        }
-        round
+fn input(mib: usize, pairs: &[Pair]) -> Input<'_> {
+    let program = |(name, call)| {
+        let run = move || clock(|| _ = black_box(pass(pairs, black_box(call))));
+        Program::new(name, move || Ok(mean(PASSES * passes(mib), run)))
+    };
+    Input {
+        bytes: size_of_val(pairs),
+        programs: CALLS.map(program).into(),
     }
 }
 
-fn median(rounds: &[Round], figure: impl Fn(&Round) -> f64) -> f64 {
-    let mut figures: Vec<f64> = rounds.iter().map(figure).collect();
-    figures.sort_by(f64::total_cmp);
-    figures[figures.len() / 2]
-}
-
-fn print(rounds: &[Round]) {
-    let proved = median(rounds, |round| round.proved.each());
-    let second = median(rounds, |round| round.second.each());
-    let sum = median(rounds, |round| round.sum.each());
-    println!("{PAIRS} pairs, {PASSES} times a round, medians of {ROUNDS} rounds");
-    println!("towercloak   {proved:>7.2} ns");
-    println!("second       {second:>7.2} ns");
-    println!("adding       {sum:>7.2} ns");
-    println!("towercloak : second   {:.2}", proved / second);
-    println!("towercloak : adding   {:.2}", proved / sum);
-    println!("second : adding       {:.2}", second / sum);
+fn measure() -> Fallible<()> {
+    let pairs = SIZES.map(pairs);
+    pairs.iter().try_for_each(|pairs| check(pairs))?;
+    let inputs = SIZES.iter().zip(&pairs);
+    let inputs = inputs.map(|(mib, pairs)| input(*mib, pairs)).collect();
+    table::head();
+    table::rows("compare", "pairs", inputs)
 }
 
 fn main() -> ExitCode {
-    let pairs = pairs();
-    let rounds: Vec<Round> = (0..ROUNDS).map(|_| Round::run(&pairs)).collect();
-    print(&rounds);
-    for round in &rounds {
-        if round.proved.checksum != round.second.checksum {
-            println!("the answers differ");
-            return ExitCode::FAILURE;
-        }
-    }
-    println!(
-        "checksums    {:016x} {:016x}",
-        rounds[0].proved.checksum, rounds[0].sum.checksum
-    );
-    ExitCode::SUCCESS
+    end(measure())
 }
