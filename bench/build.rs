@@ -1,7 +1,7 @@
 //! Links the proved code into each program: `libtowercloak.a` into `compare`
-//! and `scrub`, `libreplay_probe.a` into `replay`. The static libraries are looked for
-//! in the folder that `STATICLIB_DIR` names, else in the repository's
-//! `target/staticlib`.
+//! and `scrub`, `libreplay_probe.a` into `replay`. The static libraries are
+//! looked for in the folder that `STATICLIB_DIR` names, else in the
+//! repository's `target/staticlib`.
 
 use std::env;
 use std::path::PathBuf;

@@ -13,9 +13,12 @@ use bench::Fallible;
 use second::replay::{Answer, ROW, TABLE};
 use std::env;
 use std::ffi::OsString;
-use std::fs;
+use std::fs::File;
+use std::io;
+use std::os::fd::AsRawFd;
 use std::path::Path;
 use std::process::ExitCode;
+use std::{ptr, slice};
 
 mod c {
     extern "C" {
@@ -26,7 +29,18 @@ mod c {
             table_len: usize,
             which: u64,
         ) -> u64;
+        pub fn mmap(
+            near: *const u8,
+            len: usize,
+            protection: i32,
+            flags: i32,
+            file: i32,
+            offset: i64,
+        ) -> *const u8;
     }
+
+    pub const PROT_READ: i32 = 1;
+    pub const MAP_PRIVATE: i32 = 2;
 }
 
 /// One number of the proved answer: 0, rows, buffers, records and open of a
@@ -124,11 +138,25 @@ fn measure() -> Fallible<()> {
     on_logs(&kinds, check, &jobs)
 }
 
+/// The bytes of a file that nothing writes to meanwhile.
+fn mapped(path: &Path) -> io::Result<&'static [u8]> {
+    let file = File::open(path)?;
+    let len = file.metadata()?.len() as usize;
+    let (start, fd) = (ptr::null(), file.as_raw_fd());
+    // SAFETY: the mapping is a new one, of a file that is open.
+    let bytes = unsafe { c::mmap(start, len, c::PROT_READ, c::MAP_PRIVATE, fd, 0) };
+    if bytes as isize == -1 {
+        return Err(io::Error::last_os_error());
+    }
+    // SAFETY: the mapping has these bytes, and stays.
+    Ok(unsafe { slice::from_raw_parts(bytes, len) })
+}
+
 /// `--file`: replays the log in a file and prints its rows.
 fn file(path: &Path) -> Fallible<()> {
-    let log = fs::read(path).map_err(|error| named(path, error))?;
+    let log = mapped(path).map_err(|error| named(path, error))?;
     let mut table = vec![0; TABLE];
-    let number = proved(&log, &mut table, 0);
+    let number = proved(log, &mut table, 0);
     if number != 0 {
         return Err(format!("refused {number}"));
     }
