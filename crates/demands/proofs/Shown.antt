@@ -1,5 +1,5 @@
 -- Replay depends on the trace without what is hidden. Assumes nothing.
-use Prim.Native.Nat.{ℕ, _+_, _-_, _≤_}
+use Prim.Native.Nat.{ℕ, _-_, _≤_}
 use mathlib.Core.Path.{_≡_, refl, sym, ap, _∙_}
 use mathlib.Core.Bool.{Bool, true, false}
 use mathlib.Core.List.{List, _++_, append-assoc}
@@ -17,27 +17,25 @@ use Rattle.replay.specs.Row.{Row, written, flat, zeros, tableOf}
 use Rattle.replay.specs.Step.{State, Outcome, went, stopped, start, step}
 use Rattle.replay.specs.Replay.{Result, refused, replayed, meaning, recordsIn, buffersOf, buffersIn, Verdict, refusal, told, answer, rowsOf, tableAfter}
 
+-- What is hidden of a record is an argument's value alone.
+by-shown : {A : Type 0} (f : Record → A) → ((v : ℕ) → f (CallArgument v) ≡ f (shown (CallArgument v))) → (r : Record) → f r ≡ f (shown r)
+unfolding shown
+by-shown f argument (NewBuffer t) = refl
+by-shown f argument EndOfBuffer = refl
+by-shown f argument (NewCpuId c t) = refl
+by-shown f argument (TscWrap t) = refl
+by-shown f argument (WallTime m n) = refl
+by-shown f argument (CustomEvent n t) = refl
+by-shown f argument (CallArgument v) = argument v
+by-shown f argument (Function a i d) = refl
+
 step-shown : (s : State) (r : Record) → step s r ≡ step s (shown r)
 unfolding step shown
-step-shown s (NewBuffer t) = refl
-step-shown s EndOfBuffer = refl
-step-shown s (NewCpuId c t) = refl
-step-shown s (TscWrap t) = refl
-step-shown s (WallTime m n) = refl
-step-shown s (CustomEvent n t) = refl
-step-shown s (CallArgument v) = refl
-step-shown s (Function a f d) = refl
+step-shown s r = by-shown (step s) (λ v. refl) r
 
 buffers-shown : (r : Record) → buffersOf r ≡ buffersOf (shown r)
 unfolding shown
-buffers-shown (NewBuffer t) = refl
-buffers-shown EndOfBuffer = refl
-buffers-shown (NewCpuId c t) = refl
-buffers-shown (TscWrap t) = refl
-buffers-shown (WallTime m n) = refl
-buffers-shown (CustomEvent n t) = refl
-buffers-shown (CallArgument v) = refl
-buffers-shown (Function a f d) = refl
+buffers-shown r = by-shown buffersOf (λ v. refl) r
 
 replayed-shown : (t : Trace) (s : State) → replayed t s ≡ replayed (shownIn t) s
 unfolding replayed shownIn
@@ -86,7 +84,7 @@ module _ (s t : List ℕ) (o : Overwritten s t) where
   same-by : {A : Type 0} (f : Trace → A) → ((x : Trace) → f x ≡ f (shownIn x)) → f (trace s) ≡ f (trace t)
   same-by f law = law (trace s) ∙ ap f (overwritten s t o) ∙ sym (law (trace t))
 
-  pub same-meaning : meaning s ≡ meaning t
+  same-meaning : meaning s ≡ meaning t
   unfolding meaning
   same-meaning = same-by (λ (x : Trace). replayed x start) (λ x. replayed-shown x start)
 

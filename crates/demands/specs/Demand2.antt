@@ -13,19 +13,19 @@ use Rattle.fdr.specs.declared.grammar.Stage.the-variants.{Between}
 use Rattle.log_writer.specs.declared.Writer.{Writer}
 use Rattle.log_writer.specs.Start.{went, started, outputStarted}
 use Rattle.log_writer.specs.Call.{Call}
-use Rattle.log_writer.specs.Session.{Entry, stateIn, outputIn, acceptedIn, TypedCalls}
+use Rattle.log_writer.specs.Session.{Logged, stateIn, outputIn, acceptedIn, TypedCalls}
 
 -- The records of a trace, each with the bytes of its event.
-unfoldable pub entriesIn : List ℕ → Trace → List Entry
-entriesIn s (item place r after rest) = record { it = r; event = take (eventSize r) (drop (place + sizeOf r) s) } ∷ entriesIn s rest
-entriesIn s done = []
-entriesIn s (refusedAt n place) = []
+unfoldable pub loggedIn : List ℕ → Trace → List Logged
+loggedIn s (item place r after rest) = record { it = r; event = take (eventSize r) (drop (place + sizeOf r) s) } ∷ loggedIn s rest
+loggedIn s done = []
+loggedIn s (refusedAt n place) = []
 
 -- "a well-formed log whose records are those accepted, in order", with the header that the start fixed.
-pub record ReadsAs (frequency : ℕ) (constant nonstop : Bool) (size : ℕ) (accepted : List Entry) (log : List ℕ) : Type 0 where
+pub record ReadsAs (frequency : ℕ) (constant nonstop : Bool) (size : ℕ) (accepted : List Logged) (log : List ℕ) : Type 0 where
   pub formed : wellFormed log ≡ true
   pub header : openedWithin longest log ≡ passed (record { «constant_tsc» = cond constant 1 0; «nonstop_tsc» = cond nonstop 1 0; frequency = frequency; «buffer_size» = size })
-  pub records : entriesIn log (trace log) ≡ accepted
+  pub records : loggedIn log (trace log) ≡ accepted
 
 -- "From one start, where every call gets the same output and the state last returned and nothing else writes to it, after
 -- a close or right after the start the bytes so far are" such a log: for every sequence of calls, refused ones among them.
