@@ -1,13 +1,11 @@
 -- The scrubber's two passes over a log. Assumes nothing.
 use Prim.Native.Nat.{ℕ, _+_, _≤_}
-use mathlib.Core.Path.{_≡_, refl, sym, ap, _∙_}
-use mathlib.Core.Bool.{Bool, true, false, true≢false}
+use mathlib.Core.Path.{_≡_, refl, sym, _∙_}
+use mathlib.Core.Bool.{true, false, _||_, true≢false}
 use mathlib.Core.List.{List, [], _∷_}
 use native.Mathlib.Omega.{arith}
 use types.Run.{OneOf, miss}
 use denote.Enum.Declared.{tagOf}
-use lib.ListN.{length}
-use Rattle.fdr.specs.Number.{byteAt}
 use Rattle.fdr.specs.Record.{visible}
 use Rattle.fdr.specs.Refusal.{numberOf}
 use Rattle.fdr.specs.Header.{passed, failed, openedWithin, longest}
@@ -33,46 +31,46 @@ not-refused Over one = refl
 not-refused (Found r q) one = refl
 not-refused (Refused f a) one = absurd (miss (0 ∷ 1 ∷ []) 2 tt one)
 
+-- Once a range is zero, the walk goes on behind it as it would have.
+range-wiped : (s t : List ℕ) (from to : ℕ) (q : Position) → to ≤ q .place → t ≡ zeroed (within from to) s → zeroed (hiddenIn (traceFrom t q)) t ≡ zeroed (λ i. within from to i || hiddenIn (traceFrom s q) i) s
+range-wiped s t from to q l e =
+    let same : SameFrom s t (q .place) = record {
+      long = rw e (sym (length-zeroed 0 (within from to) s));
+      bytes = λ i h. rw e (zeroed-behind from to s i (omega arith));
+    } in
+    rw (← trace-agree s t q same, e) (sym (zeroed-or (within from to) (hiddenIn (traceFrom s q)) s))
+
 -- The walk's answer, put into the trace.
 module _ (s : List ℕ) (p : Position) where
   trace-at : (x : Stepping) → next s p ≡ x → traceFrom s p ≡ traced x (p .place) (traceFrom s)
-  trace-at x z = trace-next s p ∙ ap (λ (y : Stepping). traced y (p .place) (traceFrom s)) z
+  trace-at x z = trace-next s p ∙ rw z
 
   -- No record was found: the log is over, or it is refused.
   pub ends : (x : Step) → steppingOf x ≡ next s p → OneOf (0 ∷ 2 ∷ []) (tagOf the-steps x) → endOf (steppingOf x) ≡ ending (traceFrom s p)
   unfolding ending
-  ends Over e one = sym (ap ending (trace-at over (sym e)))
-  ends (Refused f a) e one = sym (ap ending (trace-at (stopped (numberOf f) a) (sym e)))
+  ends Over e one = rw (trace-at over (sym e))
+  ends (Refused f a) e one = rw (trace-at (stopped (numberOf f) a) (sym e))
   ends (Found r q) e one = absurd (miss (0 ∷ 2 ∷ []) 1 tt one)
 
   pub nothing-left : (x : Step) → steppingOf x ≡ next s p → OneOf (0 ∷ 2 ∷ []) (tagOf the-steps x) → s ≡ zeroed (hiddenIn (traceFrom s p)) s
   unfolding hiddenIn
-  nothing-left Over e one = sym (ap (λ (x : Trace). zeroed (hiddenIn x) s) (trace-at over (sym e)) ∙ zeroed-none (hiddenIn done) s (λ i. refl))
-  nothing-left (Refused f a) e one = sym (ap (λ (x : Trace). zeroed (hiddenIn x) s) (trace-at (stopped (numberOf f) a) (sym e)) ∙ zeroed-none (hiddenIn (refusedAt (numberOf f) a)) s (λ i. refl))
+  nothing-left Over e one = rw (trace-at over (sym e)) (sym (zeroed-none _ s (λ i. refl)))
+  nothing-left (Refused f a) e one = rw (trace-at (stopped (numberOf f) a) (sym e)) (sym (zeroed-none _ s (λ i. refl)))
   nothing-left (Found r q) e one = absurd (miss (0 ∷ 2 ∷ []) 1 tt one)
 
   module _ (r : Record) (q : Position) (z : next s p ≡ went r q) where
     pub ends-later : ending (traceFrom s p) ≡ ending (traceFrom s q)
     unfolding ending
-    ends-later = ap ending (trace-at (went r q) z)
+    ends-later = rw (trace-at (went r q) z)
 
     pub visible-before : p .place + visible r ≤ q .place
     visible-before = omega (arith, forward s p r q z .by, visible-size r)
 
-    -- One record's hidden bytes are zero, and the walk goes on over the rest as it would have.
+    -- One record's hidden bytes are zero.
     pub wiped : (n : ℕ) → n ≡ visible r → (t : List ℕ) → t ≡ zeroed (within (p .place + n) (q .place)) s → zeroed (hiddenIn (traceFrom t q)) t ≡ zeroed (hiddenIn (traceFrom s p)) s
     unfolding hiddenIn
     wiped n seen t was =
-        let range : ℕ → Bool = within (p .place + visible r) (q .place) in
-        let e : t ≡ zeroed range s = was ∙ ap (λ (m : ℕ). zeroed (within (p .place + m) (q .place)) s) seen in
-        let same : SameFrom s t (q .place) = record {
-          long = sym (ap length e ∙ length-zeroed 0 range s);
-          bytes = λ i l. zeroed-behind (p .place + visible r) (q .place) s i l ∙ sym (ap (λ (x : List ℕ). byteAt x i) e);
-        } in
-        ap (λ (x : Trace). zeroed (hiddenIn x) t) (sym (trace-agree s t q same))
-        ∙ ap (zeroed (hiddenIn (traceFrom s q))) e
-        ∙ sym (zeroed-or range (hiddenIn (traceFrom s q)) s)
-        ∙ sym (ap (λ (x : Trace). zeroed (hiddenIn x) s) (trace-at (went r q) z))
+        range-wiped s t (p .place + n) (q .place) q (omega arith) was ∙ rw (trace-at (went r q) z, seen)
 
 -- The answer tells whether a log is well-formed.
 ends-well : (t : Trace) → ending t ≡ scrubbed → finished t ≡ true
@@ -96,25 +94,19 @@ well-scrubbed (refusedAt n place) e = absurd (true≢false (sym e))
 -- A refused log is left as it was.
 pub left-alone : (s : List ℕ) (n place : ℕ) → refused n place ≡ scrubbing s → s ≡ bytesAfter s
 unfolding bytesAfter
-left-alone s n place e = sym (rw (ends-badly (trace s) n place (sym e), bytesAfter))
+left-alone s n place e = rw (ends-badly (trace s) n place (sym e), bytesAfter)
 
 pub header-refused : (s : List ℕ) (n : ℕ) → openedWithin longest s ≡ failed n → refused n 0 ≡ scrubbing s
 unfolding ending
-header-refused s n z = sym (ap ending (trace-failed longest s n z))
+header-refused s n z = rw (trace-failed longest s n z)
 
 -- A log whose header passes: first the header's hidden bytes, then those of the records.
 module _ (s : List ℕ) (h : Header) (z : openedWithin longest s ≡ passed h) where
   pub records-tell : ending (traceFrom s (startOf h)) ≡ scrubbing s
-  records-tell = ap ending (sym (trace-passed longest s h z))
+  records-tell = rw (trace-passed longest s h z)
 
   pub both-wiped : (t : List ℕ) → t ≡ zeroed (within 24 32) s → scrubbed ≡ scrubbing s → zeroed (hiddenIn (traceFrom t (startOf h))) t ≡ bytesAfter s
   unfolding bytesAfter hidden
   both-wiped t e well =
-      let same : SameFrom s t 32 = record {
-        long = sym (ap length e ∙ length-zeroed 0 (within 24 32) s);
-        bytes = λ i l. zeroed-behind 24 32 s i l ∙ sym (ap (λ (x : List ℕ). byteAt x i) e);
-      } in
-      ap (λ (x : Trace). zeroed (hiddenIn x) t) (sym (trace-agree s t (startOf h) same) ∙ sym (trace-passed longest s h z))
-      ∙ ap (zeroed (hiddenIn (trace s))) e
-      ∙ sym (zeroed-or (within 24 32) (hiddenIn (trace s)) s)
-      ∙ sym (rw (ends-well (trace s) (sym well), bytesAfter))
+      range-wiped s t 24 32 (startOf h) (omega arith) e
+      ∙ rw (ends-well (trace s) (sym well), bytesAfter, ← trace-passed longest s h z)

@@ -1,6 +1,6 @@
 -- Laws of a list with zero in place of some of its bytes. Assumes nothing.
 use Prim.Native.Nat.{ℕ, zero, suc, _+_, _<_, _≤_}
-use mathlib.Core.Path.{_≡_, refl, sym, ap, _∙_}
+use mathlib.Core.Path.{_≡_, refl, sym, _∙_}
 use mathlib.Core.Bool.{Bool, true, false, _||_}
 use mathlib.Core.List.{List, [], _∷_}
 use native.Mathlib.Omega.{arith}
@@ -28,12 +28,13 @@ kept-zero false = refl
 getD-zeroedFrom : (p : ℕ) (h : ℕ → Bool) (s : List ℕ) (i : ℕ) → getD (zeroedFrom p h s) i 0 ≡ kept (h (p + i)) (getD s i 0)
 unfolding zeroedFrom
 getD-zeroedFrom p h [] i = kept-zero (h (p + i))
-getD-zeroedFrom p h (b ∷ s) zero = ap (λ (n : ℕ). kept (h n) b) (sym (add-zero p))
+getD-zeroedFrom p h (b ∷ s) zero = rw add-zero
 getD-zeroedFrom p h (b ∷ s) (suc i) =
-    getD-zeroedFrom (p + 1) h s i ∙ ap (λ (n : ℕ). kept (h n) (getD s i 0)) (omega arith)
+    let e : p + suc i ≡ p + 1 + i = omega arith in
+    rw e (getD-zeroedFrom (p + 1) h s i)
 
 pub getD-zeroed : (h : ℕ → Bool) (s : List ℕ) (i : ℕ) → getD (zeroed h s) i 0 ≡ kept (h i) (getD s i 0)
-getD-zeroed h s i = getD-zeroedFrom 0 h s i ∙ ap (λ (n : ℕ). kept (h n) (getD s i 0)) (zero-add i)
+getD-zeroed h s i = getD-zeroedFrom 0 h s i ∙ rw zero-add
 
 -- Two lists of a length with the same bytes.
 same-bytes : (s t : List ℕ) → length s ≡ length t → ((i : ℕ) → getD s i 0 ≡ getD t i 0) → s ≡ t
@@ -51,7 +52,7 @@ zeroed-same h g s t long e =
 pub zeroed-or : (h g : ℕ → Bool) (s : List ℕ) → zeroed (λ i. h i || g i) s ≡ zeroed g (zeroed h s)
 zeroed-or h g s =
     zeroed-same (λ i. h i || g i) g s (zeroed h s) (sym (length-zeroed 0 h s))
-    (λ i. either (h i) (g i) (getD s i 0) ∙ ap (kept (g i)) (sym (getD-zeroed h s i)))
+    (λ i. either (h i) (g i) (getD s i 0) ∙ rw (getD-zeroed h s i))
   where
     either : (a b : Bool) (n : ℕ) → kept (a || b) n ≡ kept b (kept a n)
     either true b n = kept-zero b
@@ -66,15 +67,12 @@ pub zeroed-more : (from i : ℕ) (s : List ℕ) → from ≤ i → i < length s 
 zeroed-more from i s l h =
     let z : List ℕ = zeroed (within from i) s in
     let long : length z ≡ length s = length-zeroed 0 (within from i) s in
+    let inside : i < length z = omega arith in
     same-bytes (set z i 0) (zeroed (within from (i + 1)) s)
     (length-set z i 0 ∙ long ∙ sym (length-zeroed 0 (within from (i + 1)) s))
     (λ j. by-eq j i
-    (λ here. ap (λ (k : ℕ). getD (set z i 0) k 0) here
-    ∙ getD-set-same z i 0 0 (omega arith)
-    ∙ sym (getD-zeroed (within from (i + 1)) s j ∙ ap (λ (b : Bool). kept b (getD s j 0)) (in-range from (i + 1) j (omega arith) (omega arith))))
-    (λ other. getD-set-other z i j 0 0 other ∙ getD-zeroed (within from i) s j
-    ∙ ap (λ (b : Bool). kept b (getD s j 0)) (same-range j other)
-    ∙ sym (getD-zeroed (within from (i + 1)) s j)))
+    (λ here. rw (here, getD-set-same z i 0 0, getD-zeroed (within from (i + 1)) s i, in-range from (i + 1) i l (omega arith)))
+    (λ other. rw (getD-set-other z i j 0 0 other, getD-zeroed (within from i) s j, getD-zeroed (within from (i + 1)) s j, same-range j other)))
   where
     same-range : (j : ℕ) → (j ≡ i → ⊥) → within from i j ≡ within from (i + 1) j
     same-range j other =
@@ -86,4 +84,4 @@ zeroed-more from i s l h =
 
 -- What lies behind a range is as it was.
 pub zeroed-behind : (from to : ℕ) (s : List ℕ) (i : ℕ) → to ≤ i → getD s i 0 ≡ getD (zeroed (within from to) s) i 0
-zeroed-behind from to s i l = sym (getD-zeroed (within from to) s i ∙ ap (λ (b : Bool). kept b (getD s i 0)) (behind-range from to i l))
+zeroed-behind from to s i l = rw (getD-zeroed (within from to) s i, behind-range from to i l)

@@ -4,11 +4,10 @@ use Rattle.scrub.proofs.Scrubbing.{ends, ends-later}
 use Rattle.fdr.proofs.Tracing.{forward}
 use Rattle.fdr.proofs.Records.{sized-some}
 use Rattle.fdr.specs.Trace.{traceFrom}
-use Rattle.fdr.specs.Walk.{steppingOf}
+use Rattle.fdr.specs.Walk.{went, steppingOf, next}
 use borrow.Author.Needs.{needs}
 use lib.ListN.{length}
-use mathlib.Core.List.{List}
-use Prim.Native.Nat.{ℕ, _-_}
+use Prim.Native.Nat.{_-_}
 use native.Mathlib.Omega.{arith}
 use mathlib.Core.Path.{_≡_, refl, sym, ap, _∙_}
 use Rattle.scrub.proofs.check.Statement.{statement}
@@ -19,6 +18,10 @@ Inv-loop log at₀ at = ending (traceFrom log at) ≡ ending (traceFrom log at�
 
 abbrev μ-loop : tie.MeasureT-loop
 μ-loop log at₀ at = length log - at .place
+
+-- At a record that the walk found.
+found : (c : tie.After-step Inv-loop μ-loop) → next (c .before .before .before .before .before .args .log .now) (c .before .before .before .loop .at) ≡ went (c .step .given .0 .0) (c .step .given .0 .1 .0)
+found c = sym (c .before .before .next .ensures) ∙ ap steppingOf (c .step .given .1)
 
 loop-holds : tie.Need-loop-holds Inv-loop μ-loop
 loop-holds c = refl
@@ -36,19 +39,10 @@ returns : tie.Need-returns Inv-loop μ-loop
 returns c = c .ended .ensures ∙ ends (c .before .before .before .before .before .args .log .now) (c .before .before .before .loop .at) (c .before .before .next .result) (c .before .before .next .ensures) (c .before .match .keys2) ∙ c .before .before .before .loop .inv
 
 loop-less : tie.Need-loop-less Inv-loop μ-loop
-loop-less c =
-    let s : List ℕ = c .before .before .before .before .before .before .args .log .now in
-    let l = c .before .before .before .before .loop in
-    let z = sym (c .before .before .before .next .ensures) ∙ ap steppingOf (c .before .step .given .1) in
-    let w = forward s (l .at) _ _ z in
-    omega (arith, w .from, w .by, w .within, w .inLog, sized-some (c .before .step .given .0 .0))
+loop-less c = omega (arith, forward _ _ _ _ (found (c .before)), sized-some (c .before .step .given .0 .0))
 
 loop-again : tie.Need-loop-again Inv-loop μ-loop
-loop-again c =
-    let s : List ℕ = c .before .before .before .before .before .before .args .log .now in
-    let l = c .before .before .before .before .loop in
-    let z = sym (c .before .before .before .next .ensures) ∙ ap steppingOf (c .before .step .given .1) in
-    sym (ends-later s (l .at) _ _ z) ∙ l .inv
+loop-again c = sym (ends-later _ _ _ _ (found (c .before))) ∙ c .before .before .before .before .loop .inv
 
 pub check-spec : {M : Type 1} → statement M
 check-spec =

@@ -2,17 +2,18 @@
 use Rattle.scrub.proofs.Scrubbing.{left-alone, records-tell, both-wiped}
 use Rattle.fdr.proofs.Opening.{passed-long}
 use Rattle.fdr.specs.Header.{longest}
-use Rattle.fdr.specs.Hidden.{hiddenIn}
-use Rattle.fdr.specs.Trace.{traceFrom}
-use Rattle.fdr.specs.declared.walk.Position.{Position}
-use Rattle.scrub.specs.Scrub.{scrubbingOf, ending, zeroed}
+use Rattle.scrub.specs.Scrub.{scrubbingOf, scrubbing}
 use native.Mathlib.Omega.{arith}
 use Prim.Native.Nat.{ℕ}
 use mathlib.Core.List.{List}
-use mathlib.Core.Path.{sym, ap, _∙_}
+use mathlib.Core.Path.{_≡_, sym, ap, _∙_}
 use borrow.Author.Needs.{needs}
 use Rattle.scrub.proofs.scrub_records.Statement.{statement}
 use Rattle.scrub.proofs.scrub_records.Tie as tie
+
+-- The first pass tells what the scrubber does.
+tells : (c : tie.After-check) → scrubbingOf (c .check .result) ≡ scrubbing (c .before .before .before .before .args .log .now)
+tells c = c .check .ensures ∙ rw (c .before .before .start .ensures) (records-tell _ _ (c .before .before .before .before .pre))
 
 start-requires : tie.Need-start-requires
 start-requires c κs = search needs
@@ -37,22 +38,19 @@ same-length c = search needs
 
 returns : tie.Need-returns
 returns c =
-    let s : List ℕ = c .before .before .before .before .before .before .before .before .before .before .before .before .before .before .args .log .now in
-    let first = c .before .before .before .before .before .before .before .before .before .before .before .before .start .ensures in
-    let tells = c .before .before .before .before .before .before .before .before .before .before .check .ensures ∙ ap (λ (p : Position). ending (traceFrom s p)) first ∙ records-tell s (c .before .before .before .before .before .before .before .before .before .before .before .before .before .before .args .header) (c .before .before .before .before .before .before .before .before .before .before .before .before .before .before .pre) in
+    let a = c .before .before .before .before .before .before .before .before .before .before .before .before .before .before in
     let t : List ℕ = c .before .before .before .before .before .before .zero .last .0 in
-    let well = sym (ap scrubbingOf (c .before .before .before .before .before .before .before .before .«enum-told» .given .1)) ∙ tells in
-    (tells, c .before .before .wipe .ensures ∙ ap (λ (p : Position). zeroed (hiddenIn (traceFrom t p)) t) first ∙ both-wiped s (c .before .before .before .before .before .before .before .before .before .before .before .before .before .before .args .header) (c .before .before .before .before .before .before .before .before .before .before .before .before .before .before .pre) t (c .before .before .before .before .before .before .zero .ensures) well)
+    let all = tells (c .before .before .before .before .before .before .before .before .before .before) in
+    let well = sym (ap scrubbingOf (c .before .before .before .before .before .before .before .before .«enum-told» .given .1)) ∙ all in
+    (all, c .before .before .wipe .ensures ∙ rw (c .before .before .before .before .before .before .before .before .before .before .before .before .start .ensures) (both-wiped (a .args .log .now) _ (a .pre) t (c .before .before .before .before .before .before .zero .ensures) well))
 
 same-length-2 : tie.Need-same-length-2
 same-length-2 c = search needs
 
 returns-2 : tie.Need-returns-2
 returns-2 c =
-    let s : List ℕ = c .before .before .before .before .before .before .args .log .now in
-    let first = c .before .before .before .before .start .ensures in
-    let tells = c .before .before .check .ensures ∙ ap (λ (p : Position). ending (traceFrom s p)) first ∙ records-tell s (c .before .before .before .before .before .before .args .header) (c .before .before .before .before .before .before .pre) in
-    (tells, left-alone s _ _ (sym (ap scrubbingOf (c .«enum-told2» .given .1)) ∙ tells))
+    let all = tells (c .before .before) in
+    (all, left-alone _ _ _ (sym (ap scrubbingOf (c .«enum-told2» .given .1)) ∙ all))
 
 pub scrub-records-spec : {M : Type 1} → statement M
 scrub-records-spec =

@@ -5,7 +5,7 @@ use Rattle.fdr.proofs.Tracing.{forward}
 use Rattle.fdr.proofs.Records.{sized-some}
 use Rattle.fdr.specs.Hidden.{hiddenIn}
 use Rattle.fdr.specs.Trace.{traceFrom}
-use Rattle.fdr.specs.Walk.{steppingOf}
+use Rattle.fdr.specs.Walk.{went, steppingOf, next}
 use borrow.Author.Needs.{needs}
 use lib.ListN.{length}
 use Prim.Native.Nat.{_-_}
@@ -19,6 +19,10 @@ Inv-loop log₀ at₀ log at = (zeroed (hiddenIn (traceFrom log at)) log ≡ zer
 
 abbrev μ-loop : tie.MeasureT-loop
 μ-loop log₀ at₀ log at = length log - at .place
+
+-- At a record that the walk found.
+found : (c : tie.After-step Inv-loop μ-loop) → next (c .before .before .before .before .loop .log) (c .before .before .before .before .loop .at) ≡ went (c .step .given .0 .0) (c .step .given .0 .1 .0)
+found c = sym (c .before .before .next .ensures) ∙ ap steppingOf (c .step .given .1)
 
 loop-holds : tie.Need-loop-holds Inv-loop μ-loop
 loop-holds c = (refl, refl)
@@ -40,30 +44,24 @@ visible-size-requires c κs = search needs
 
 add-from : tie.Need-add-from Inv-loop μ-loop
 add-from c =
-    let l = c .before .before .before .before .before .before .before .loop in
-    let z = sym (c .before .before .before .before .before .next .ensures) ∙ ap steppingOf (c .before .before .before .step .given .1) in
-    let w = forward _ (l .at) _ _ z in
-    omega (arith, c .before .«visible-size» .ensures, visible-before _ (l .at) _ _ z, w .within, w .inLog)
+    let z = found (c .before .before .before) in
+    omega (arith, c .before .«visible-size» .ensures, visible-before _ _ _ _ z, forward _ _ _ _ z)
 
 zero-requires : tie.Need-zero-requires Inv-loop μ-loop
 zero-requires c κs =
-    let l = c .before .before .before .before .before .before .before .before .loop in
-    let z = sym (c .before .before .before .before .before .before .next .ensures) ∙ ap steppingOf (c .before .before .before .before .step .given .1) in
-    let w = forward _ (l .at) _ _ z in
-    (omega (arith, c .before .before .«visible-size» .ensures, visible-before _ (l .at) _ _ z), omega (arith, w .within, w .inLog))
+    let z = found (c .before .before .before .before) in
+    (omega (arith, c .before .before .«visible-size» .ensures, visible-before _ _ _ _ z), omega (arith, forward _ _ _ _ z))
 
 loop-less : tie.Need-loop-less Inv-loop μ-loop
 loop-less c =
-    let l = c .before .before .before .before .before .before .before .before .before .before .before .loop in
-    let z = sym (c .before .before .before .before .before .before .before .before .before .next .ensures) ∙ ap steppingOf (c .before .before .before .before .before .before .before .step .given .1) in
-    let w = forward _ (l .at) _ _ z in
-    omega (arith, c .before .before .zero .kept .0, w .from, w .by, w .within, w .inLog, sized-some (c .before .before .before .before .before .before .before .step .given .0 .0))
+    let z = found (c .before .before .before .before .before .before .before) in
+    omega (arith, c .before .before .zero .kept .0, forward _ _ _ _ z, sized-some (c .before .before .before .before .before .before .before .step .given .0 .0))
 
 loop-again : tie.Need-loop-again Inv-loop μ-loop
 loop-again c =
     let l = c .before .before .before .before .before .before .before .before .before .before .before .loop in
-    let z = sym (c .before .before .before .before .before .before .before .before .before .next .ensures) ∙ ap steppingOf (c .before .before .before .before .before .before .before .step .given .1) in
-    (wiped (l .log) (l .at) _ _ z _ (c .before .before .before .before .before .«visible-size» .ensures) _ (c .before .before .zero .ensures) ∙ l .inv .0, c .before .before .zero .kept .0 ∙ l .inv .1)
+    let z = found (c .before .before .before .before .before .before .before) in
+    (wiped _ _ _ _ z _ (c .before .before .before .before .before .«visible-size» .ensures) _ (c .before .before .zero .ensures) ∙ l .inv .0, c .before .before .zero .kept .0 ∙ l .inv .1)
 
 pub wipe-spec : {M : Type 1} → statement M
 wipe-spec =
