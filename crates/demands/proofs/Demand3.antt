@@ -1,12 +1,12 @@
 -- Demand 3, proved. Assumes nothing.
 use Prim.Native.Nat.{ℕ}
-use mathlib.Core.Path.{_≡_, refl, sym, ap, _∙_}
+use mathlib.Core.Path.{_≡_, refl, sym, _∙_}
 use mathlib.Core.Bool.{Bool, true, false}
 use mathlib.Core.List.{List}
 use native.Mathlib.Omega.{arith}
 use borrow.Author.Tests.{lt-ltb, le-ltb}
 use lib.Dec.{ltb}
-use lib.ListN.{length, getD, take}
+use lib.ListN.{length, getD}
 use Rattle.fdr.specs.Number.{byteAt}
 use Rattle.fdr.specs.Trace.{wellFormed, trace}
 use Rattle.fdr.specs.Hidden.{hidden, Overwritten}
@@ -26,10 +26,7 @@ scrubbed-copy s well = rw (well, bytesAfter)
 
 -- A byte of the scrubbed copy.
 copied : (s : List ℕ) → wellFormed s ≡ true → (i : ℕ) (b : Bool) → hidden s i ≡ b → byteAt (bytesAfter s) i ≡ kept b (byteAt s i)
-copied s well i b e =
-    ap (λ (x : List ℕ). byteAt x i) (scrubbed-copy s well)
-    ∙ getD-zeroed (hidden s) s i
-    ∙ ap (λ (x : Bool). kept x (byteAt s i)) e
+copied s well i b e = rw (scrubbed-copy s well, getD-zeroed (hidden s) s i, e)
 
 pub demand3 : Demand3
 demand3 s t well o =
@@ -40,10 +37,10 @@ demand3 s t well o =
       answers = same-answer s t o;
       tables = same-table s t o;
       accepted = (well-scrubbed (trace s) well, well-scrubbed (trace t) formed);
-      copies = scrubbed-copy s well ∙ zeroed-same (hidden s) (hidden t) s t (o .long) (λ i. same-copied i (hidden s i) refl) ∙ sym (scrubbed-copy t formed);
-      long = ap length (scrubbed-copy s well) ∙ length-zeroed 0 (hidden s) s;
-      zero = λ i h. copied s well i true h;
-      old = λ i h. copied s well i false h;
+      copies = rw (scrubbed-copy s well, scrubbed-copy t formed) (zeroed-same (hidden s) (hidden t) s t (o .long) (λ i. same-copied i (hidden s i) refl));
+      long = rw (scrubbed-copy s well) (length-zeroed 0 (hidden s) s);
+      zero = λ i. copied s well i true;
+      old = λ i. copied s well i false;
     }
   where
     same-copied : (i : ℕ) (b : Bool) → hidden s i ≡ b → kept (hidden s i) (getD s i 0) ≡ kept (hidden t i) (getD t i 0)
@@ -72,11 +69,11 @@ ran-alike s t a b v w u n c d x y f g well o =
     record {
       formed = z .formed;
       places = z .places;
-      answers = λ e. f .verdict ∙ z .answers a b e ∙ sym (g .verdict);
-      tables = λ la lb. ap (take written) (f .numbers) ∙ z .tables a b la lb ∙ ap (take written) (sym (g .numbers));
+      answers = λ e. rw (f .verdict, g .verdict) (z .answers a b e);
+      tables = λ la lb. rw (f .numbers, g .numbers) (z .tables a b la lb);
       accepted = (f .says ∙ z .accepted .0, g .says ∙ z .accepted .1);
-      copies = f .bytes ∙ z .copies ∙ sym (g .bytes);
-      long = ap length (f .bytes) ∙ z .long;
-      zero = λ i h. ap (λ (l : List ℕ). byteAt l i) (f .bytes) ∙ z .zero i h;
-      old = λ i h. ap (λ (l : List ℕ). byteAt l i) (f .bytes) ∙ z .old i h;
+      copies = rw (f .bytes, g .bytes) (z .copies);
+      long = rw (f .bytes) (z .long);
+      zero = λ i h. rw (f .bytes) (z .zero i h);
+      old = λ i h. rw (f .bytes) (z .old i h);
     }

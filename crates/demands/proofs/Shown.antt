@@ -62,18 +62,15 @@ buffers-in-shown done = refl
 buffers-in-shown (refusedAt n place) = refl
 
 -- The first numbers of a table are the rows', then zeros, whatever it held.
-first-of : (n : ℕ) (f a b : List ℕ) → take n (f ++ (zeros (n - length f) ++ a)) ≡ take n (f ++ (zeros (n - length f) ++ b))
+first-of : (n : ℕ) (f x : List ℕ) → take n (f ++ (zeros (n - length f) ++ x)) ≡ take n (f ++ zeros (n - length f))
 unfolding zeros
-first-of n f a b = alone a ∙ sym (alone b)
-  where
-    alone : (x : List ℕ) → take n (f ++ (replicate (n - length f) 0 ++ x)) ≡ take n (f ++ replicate (n - length f) 0)
-    alone x =
-        ap (take n) (sym (append-assoc f (replicate (n - length f) 0) x))
-        ∙ take-append-le n (f ++ replicate (n - length f) 0) x (omega (arith, length-append f (replicate (n - length f) 0), length-replicate {A = ℕ} (n - length f) 0))
+first-of n f x =
+    let long : n ≤ length (f ++ replicate (n - length f) 0) = simp (length-append, length-replicate) (omega arith) in
+    rw (← append-assoc f, take-append-le n (f ++ replicate (n - length f) 0) x)
 
 first-numbers : (rows : List Row) (a b : List ℕ) → take written (tableOf rows a) ≡ take written (tableOf rows b)
 unfolding tableOf
-first-numbers rows a b = first-of written (flat rows) (drop written a) (drop written b)
+first-numbers rows a b = first-of written (flat rows) (drop written a) ∙ sym (first-of written (flat rows) (drop written b))
 
 long-table : (s a : List ℕ) → written ≤ length a → tableAfter s a ≡ tableOf (rowsOf (meaning s)) a
 unfolding tableAfter
@@ -89,14 +86,11 @@ module _ (s t : List ℕ) (o : Overwritten s t) where
   same-meaning = same-by (λ (x : Trace). replayed x start) (λ x. replayed-shown x start)
 
   same-told : told (meaning s) (trace s) ≡ told (meaning t) (trace t)
-  same-told = ap (λ (m : Result). told m (trace s)) same-meaning ∙ go (meaning t)
+  same-told = rw same-meaning (go (meaning t))
     where
       go : (m : Result) → told m (trace s) ≡ told m (trace t)
       go (refused n place) = refl
-      go (Result.accepted u) =
-          let b : buffersIn (trace s) ≡ buffersIn (trace t) = same-by buffersIn buffers-in-shown in
-          let n : recordsIn (trace s) ≡ recordsIn (trace t) = same-by recordsIn records-in-shown in
-          rw (b, n)
+      go (Result.accepted u) = rw (same-by buffersIn buffers-in-shown, same-by recordsIn records-in-shown)
 
   pub same-answer : (a b : List ℕ) → ltb (length a) written ≡ ltb (length b) written → answer s a ≡ answer t b
   unfolding answer
@@ -105,7 +99,4 @@ module _ (s t : List ℕ) (o : Overwritten s t) where
       ∙ ap (λ (x : Bool). elim x [ true ↦ refusal 14 0 | false ↦ told (meaning t) (trace t) ]) e
 
   pub same-table : (a b : List ℕ) → written ≤ length a → written ≤ length b → take written (tableAfter s a) ≡ take written (tableAfter t b)
-  same-table a b la lb =
-      ap (take written) (long-table s a la ∙ ap (λ (m : Result). tableOf (rowsOf m) a) same-meaning)
-      ∙ first-numbers (rowsOf (meaning t)) a b
-      ∙ ap (take written) (sym (long-table t b lb))
+  same-table a b la lb = rw (long-table s a la, long-table t b lb, same-meaning) (first-numbers (rowsOf (meaning t)) a b)
