@@ -21,9 +21,9 @@ use Rattle.log_writer.proofs.Tests.{Passes, went-passes}
 use Rattle.log_writer.proofs.Sound.{Sound, evenly, at-end, in-log}
 use Rattle.log_writer.proofs.Keeping.{fresh-sound}
 use Rattle.log_writer.proofs.Putting.{length-put, put-there}
-use Rattle.demands.specs.Demand2.{loggedIn, ReadsAs, WrittenLog, Demand2}
+use Rattle.demands.specs.Demand2.{loggedIn, fixed, ReadsAs, WrittenLog, Demand2}
 use Rattle.demands.proofs.Walking.{ReadsTo, stays, over-there, posOf}
-use Rattle.demands.proofs.Heading.{heading, fixed, heading-long, opens-back}
+use Rattle.demands.proofs.Heading.{heading, heading-long, opens-back}
 use Rattle.demands.proofs.Calls.{startAt, Written, session}
 
 module _ (frequency : ℕ) (constant nonstop : Bool) (size : ℕ) where
@@ -47,7 +47,7 @@ module _ (frequency : ℕ) (constant nonstop : Bool) (size : ℕ) where
       }
 
   -- The end, in front of a buffer.
-  closes-log : (room : ℕ) (w : Writer) (out : List ℕ) (logged : List Logged) → frequency < 2 ^ 64 → Written bytes size room w out logged → w .stage ≡ Between → ReadsAs frequency constant nonstop size logged (take (w .place) out)
+  closes-log : (room : ℕ) (w : Writer) (out : List ℕ) (logged : List Logged) → frequency < 2 ^ 64 → Written bytes size room w out logged → w .stage ≡ Between → ReadsAs (fixed frequency constant nonstop size) logged (take (w .place) out)
   unfolding loggedIn finished
   closes-log room w out logged few h between =
       let s : List ℕ = take (w .place) out in
@@ -66,7 +66,7 @@ module _ (frequency : ℕ) (constant nonstop : Bool) (size : ℕ) where
       let all : trace s ≡ traceFrom s (startAt size) = trace-passed longest s (fixed frequency constant nonstop size) opened in
       record {
         formed = ap finished all ∙ p .ends ∙ ap finished last;
-        header = opened;
+        opened = opened;
         records = ap (loggedIn s) all ∙ p .passed ∙ rw (last, append-nil);
       }
 

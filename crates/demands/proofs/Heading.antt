@@ -11,10 +11,10 @@ use Rattle.fdr.specs.Number.{byteAt, number, bytesOf, zeros}
 use Rattle.fdr.specs.Bits.{bitfieldOf, constantTscIn, nonstopTscIn}
 use Rattle.fdr.specs.Writing.{headerBytes}
 use Rattle.fdr.specs.Header.{passed, headerOf, openedWithin, longest}
-use Rattle.fdr.specs.declared.header.Header.{Header}
 use Rattle.fdr.proofs.Numbers.{number-agree}
 use Rattle.fdr.proofs.Storing.{number-bytes}
 use Rattle.fdr.proofs.Opening.{sizesRight, opens}
+use Rattle.demands.specs.Demand2.{fixed}
 
 bits-back : (constant nonstop : Bool) → (constantTscIn (bitfieldOf constant nonstop) ≡ cond constant 1 0) × (nonstopTscIn (bitfieldOf constant nonstop) ≡ cond nonstop 1 0) × (bitfieldOf constant nonstop < 256 ^ 4)
 bits-back true true = (refl, refl, lit≤ tt)
@@ -25,9 +25,6 @@ bits-back false false = (refl, refl, lit≤ tt)
 module _ (frequency : ℕ) (constant nonstop : Bool) (size : ℕ) where
   abbrev pub heading : List ℕ
   heading = headerBytes frequency constant nonstop size
-
-  abbrev pub fixed : Header
-  fixed = record { «constant_tsc» = cond constant 1 0; «nonstop_tsc» = cond nonstop 1 0; frequency = frequency; «buffer_size» = size }
 
   pub heading-long : length heading ≡ 32
   unfolding bytesOf zeros headerBytes
@@ -59,7 +56,7 @@ module _ (frequency : ℕ) (constant nonstop : Bool) (size : ℕ) where
     unfolding number bytesOf zeros headerBytes
     size-back = part 8 16 (lit≤ tt) ∙ number-bytes 8 size (omega arith)
 
-    header-back : headerOf s ≡ fixed
+    header-back : headerOf s ≡ fixed frequency constant nonstop size
     unfolding headerOf
     header-back =
         let (c, n, small) = bits-back constant nonstop in
@@ -72,7 +69,7 @@ module _ (frequency : ℕ) (constant nonstop : Bool) (size : ℕ) where
         go true = rw (le-ltb size 64 least, eq-eqb ((length s - 32) % size) 0 whole)
         go false = refl
 
-    pub opens-back : openedWithin longest s ≡ passed fixed
+    pub opens-back : openedWithin longest s ≡ passed (fixed frequency constant nonstop size)
     opens-back =
         sym (opens longest s long short version-back type-back (sym (ap (sizesRight s) size-back ∙ sizes-right)))
         ∙ ap passed header-back

@@ -35,7 +35,7 @@ use Rattle.log_writer.specs.Session.{Logged, eventless, loggedBy}
 use Rattle.log_writer.proofs.Putting.{here-first, here-second, here-whole}
 use Rattle.log_writer.proofs.Stages.{open-behind, open-end}
 use Rattle.log_writer.proofs.Taking.{Taken, taken, sized-follows, taken-behind, taken-joined}
-use Rattle.demands.specs.Demand2.{loggedIn}
+use Rattle.demands.specs.Demand2.{loggedAt, loggedIn}
 
 -- From a position the walk comes to another, past these records with their events.
 pub record ReadsTo (s : List ℕ) (p q : Position) (logged : List Logged) : Type 0 where
@@ -53,7 +53,7 @@ goes-on {a} {b} first second = record {
 
 module _ (s : List ℕ) (p : Position) where
   -- One step.
-  steps : (x : Record) (q : Position) → next s p ≡ went x q → ReadsTo s p q (record { it = x; event = take (eventSize x) (drop (p .place + sizeOf x) s) } ∷ [])
+  steps : (x : Record) (q : Position) → next s p ≡ went x q → ReadsTo s p q (loggedAt s (p .place) x ∷ [])
   unfolding loggedIn finished
   steps x q e =
       let t : traceFrom s p ≡ item (p .place) x (q .place) (traceFrom s q) = trace-next s p ∙ rw e in
@@ -65,7 +65,7 @@ module _ (s : List ℕ) (p : Position) where
   -- A record that stands at the position, that the grammar allows there, and that lies within the buffer.
   reads : (e : ℕ) (x : Record) (stage : Stage) (threads : Threads) (n : ℕ) → next s p ≡ stepIn s p e → e ≤ length s → Bounded x → Here s (p .place) (recordBytes x)
       → p .place + sizeOf x + eventSize x ≤ e → follows (p .stage) x ≡ To stage → joinedBy (p .threads) x ≡ Agreed threads → behind x (p .place + sizeOf x) e ≡ n
-      → ReadsTo s p (record { place = n; end = e; size = p .size; stage = stage; threads = threads }) (record { it = x; event = take (eventSize x) (drop (p .place + sizeOf x) s) } ∷ [])
+      → ReadsTo s p (record { place = n; end = e; size = p .size; stage = stage; threads = threads }) (loggedAt s (p .place) x ∷ [])
   reads e x stage threads n in-it inLog bound here fits to join b =
       let at : Placed s e (p .place) x (p .place + sizeOf x) =
       record { is = decoded-back s (p .place) x bound here; starts = omega (arith, sized-some x); behind = refl; within = omega arith; inLog = inLog } in

@@ -1,5 +1,5 @@
 -- The starred samples (paper 01, "Sample logs") as a single statement about the definitions of replay and of the
--- comparison. Each replay is lent 6,145 numbers, all 7. Assumes nothing.
+-- comparison; then B scrubbed, and B written. Each holds by computation. Assumes nothing.
 use Prim.Native.Nat.{ℕ, _+_, _-_}
 use mathlib.Core.Path.{_≡_, refl}
 use mathlib.Core.Bool.{true}
@@ -29,6 +29,7 @@ use Rattle.log_writer.specs.Session.{outputIn}
 use Rattle.fdr.specs.declared.record.Record.the-variants.{Function}
 use Rattle.compare.specs.Sample.{Comparisons, comparisons}
 
+-- Each replay is lent 6,145 numbers, all 7.
 unfoldable pub lent : List ℕ
 lent = replicate 6145 7
 
@@ -90,7 +91,7 @@ starredSamples = record {
   compared = comparisons;
 }
 
--- Not starred: the scrubber on B with 255 in every hidden byte. Those are header bytes 24 to 31, NewBuffer's last 13,
+-- B with 255 in every hidden byte, scrubbed. Those are header bytes 24 to 31, NewBuffer's last 13,
 -- WallTimeMarker's last 3, NewCPUId's last 5, EndOfBuffer's last 15 and the 16 skipped ones.
 unfoldable pub filled : ℕ → ℕ → List ℕ → List ℕ
 filled from count s = take from s ++ (replicate count 255 ++ drop (from + count) s)

@@ -8,7 +8,7 @@ use Rattle.fdr.specs.Hidden.{hidden}
 use Rattle.scrub.specs.declared.Answer.{Answer}
 use Rattle.scrub.specs.declared.Answer.the-variants.{Scrubbed, Refused}
 
--- Nothing to say, or a refusal's number and place.
+-- The log is scrubbed, or a refusal's number and place.
 pub data Scrubbing : Type 0 where
   scrubbed : Scrubbing
   refused : ℕ → ℕ → Scrubbing
@@ -18,6 +18,7 @@ abbrev pub scrubbingOf : Answer → Scrubbing
 scrubbingOf Scrubbed = scrubbed
 scrubbingOf (Refused refusal place) = refused (numberOf refusal) place
 
+-- How a trace ends.
 unfoldable pub ending : Trace → Scrubbing
 ending (item place r after rest) = ending rest
 ending done = scrubbed
@@ -27,7 +28,7 @@ ending (refusedAt n place) = refused n place
 abbrev pub scrubbing : List ℕ → Scrubbing
 scrubbing s = ending (trace s)
 
--- The bytes of a list that starts at a place, with zero in place of those of a set.
+-- The bytes of a list that starts at a place, with zero at the places of a set.
 unfoldable pub zeroedFrom : ℕ → (ℕ → Bool) → List ℕ → List ℕ
 zeroedFrom place set [] = []
 zeroedFrom place set (b ∷ s) = elim (set place) [ true ↦ 0 | false ↦ b ] ∷ zeroedFrom (place + 1) set s
