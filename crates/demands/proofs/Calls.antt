@@ -27,7 +27,7 @@ use Rattle.log_writer.proofs.Sound.{Sound, at-end, in-buffer, in-log}
 use Rattle.log_writer.proofs.Taking.{fields-bound}
 use Rattle.log_writer.proofs.Keeping.{same-log, call-sound, called-sound}
 use Rattle.log_writer.proofs.Putting.{length-put, put-before, put-there}
-use Rattle.log_writer.proofs.Calling.{length-leading, length-closing}
+use Rattle.log_writer.proofs.Buffers.{length-leading, length-closing}
 use Rattle.demands.proofs.Walking.{ReadsTo, goes-on, posOf, reads-added, reads-closed, reads-opened}
 
 -- In front of the first buffer of a log with buffers of a size.
@@ -54,11 +54,11 @@ moved-on : {room : ℕ} {w : Writer} → Sound w room → (c : Call) → Passes 
 unfolding callTests callBytes stateAfter
 moved-on {room} {w} s (opening seconds micros cpu tsc) p =
     let at : w .place ≡ w .end = at-end s (not-false _ (p .0)) in
-    (omega (arith, length-leading w seconds micros cpu tsc []), omega arith)
+    (omega (arith, length-leading w seconds micros cpu tsc), omega arith)
 moved-on s (adding r given) p = (refl, omega arith)
 moved-on {room} {w} s closing p =
     let fits : w .place + 16 ≤ w .end = in-buffer s (not-false _ (p .0)) .fits in
-    (omega (arith, length-closing w [] fits), omega arith)
+    (omega (arith, length-closing w fits), omega arith)
 
 module _ (header : List ℕ) (size room : ℕ) (w : Writer) (out : List ℕ) (logged : List Logged) (h : Written header size room w out logged) where
   abbrev Result : Call → Type 0
