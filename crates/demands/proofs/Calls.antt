@@ -11,8 +11,9 @@ use lib.ListN.{length, length-append, length-replicate}
 use Rattle.fdr.specs.Number.{byteAt, zeros}
 use Rattle.fdr.specs.Header.{test, longest}
 use Rattle.fdr.specs.Grammar.{agreedWith}
-use Rattle.fdr.specs.Writing.{recordBytes, eventOf, sizedBy, bytesFor, fieldTests}
-use Rattle.fdr.specs.RoundTrip.{Typed}
+use Rattle.fdr.specs.Encoded.{recordBytes}
+use Rattle.record_writer.specs.Writing.{eventOf, sizedBy, bytesFor, fieldTests}
+use Rattle.record_writer.specs.RoundTrip.{Typed}
 use Rattle.fdr.specs.declared.record.Record.{Record}
 use Rattle.fdr.specs.declared.record.Record.the-variants.{NewBuffer, EndOfBuffer, NewCpuId, WallTime}
 use Rattle.fdr.specs.declared.grammar.Stage.the-variants.{Between, Body}
@@ -20,8 +21,8 @@ use Rattle.fdr.specs.declared.grammar.Threads.{Threads}
 use Rattle.fdr.specs.declared.grammar.Threads.the-variants.{Unseen, One}
 use Rattle.fdr.specs.declared.grammar.Joined.the-variants.{Agreed, Another}
 use Rattle.fdr.specs.declared.walk.Position.{Position}
-use Rattle.fdr.proofs.Writing.{length-record}
-use Rattle.fdr.proofs.ReadBack.{Here}
+use Rattle.record_writer.proofs.Writing.{length-record}
+use Rattle.record_writer.proofs.ReadBack.{Here}
 use Rattle.log_writer.specs.declared.Writer.{Writer}
 use Rattle.log_writer.specs.Start.{went, put}
 use Rattle.log_writer.specs.Call.{Call, opening, adding, closing, isOpen, isClosed, stageAfter, takes, callBytes, stateAfter, callTests, called}

@@ -1,5 +1,5 @@
 -- Demand 2's round trips, proved. Assumes nothing.
-use Rattle.fdr.proofs.Rewriting.{roundTrips}
+use Rattle.record_writer.proofs.Rewriting.{roundTrips}
 use Rattle.demands.specs.Demand2.{Demand2}
 use Rattle.demands.proofs.WrittenLog.{writtenLog}
 

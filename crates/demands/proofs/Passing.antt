@@ -8,7 +8,7 @@ use borrow.Author.Tests.{le-leb}
 use lib.ListN.{length, take, drop}
 use Rattle.fdr.specs.Record.{sizeOf, eventSize}
 use Rattle.fdr.specs.Grammar.{follows, joinedBy}
-use Rattle.fdr.specs.Writing.{recordBytes}
+use Rattle.fdr.specs.Encoded.{recordBytes}
 use Rattle.fdr.specs.Walk.{Stepping, went, inFront, behind, threadTest, grammarTest, stepIn, next}
 use Rattle.fdr.specs.Trace.{item, done, traced, traceFrom, finished}
 use Rattle.fdr.specs.declared.record.Record.{Record}
@@ -24,7 +24,7 @@ use Rattle.fdr.proofs.Records.{sized-some}
 use Rattle.fdr.proofs.Decoding.{Placed, found-at}
 use Rattle.fdr.proofs.Walking.{step-found, log-over}
 use Rattle.fdr.proofs.Tracing.{trace-next}
-use Rattle.fdr.proofs.ReadBack.{Here, decoded-back}
+use Rattle.record_writer.proofs.ReadBack.{Here, decoded-back}
 use Rattle.log_writer.specs.Session.{Entry}
 use Rattle.demands.specs.Demand2.{entriesIn}
 

@@ -9,8 +9,9 @@ use lib.ListN.{length, take, drop, length-append}
 use Rattle.fdr.specs.Number.{zeros}
 use Rattle.fdr.specs.Record.{sizeOf, eventSize}
 use Rattle.fdr.specs.Grammar.{follows, agreedWith}
-use Rattle.fdr.specs.Writing.{recordBytes, eventOf, sizedBy, bytesFor}
-use Rattle.fdr.specs.RoundTrip.{Typed}
+use Rattle.fdr.specs.Encoded.{recordBytes}
+use Rattle.record_writer.specs.Writing.{eventOf, sizedBy, bytesFor}
+use Rattle.record_writer.specs.RoundTrip.{Typed}
 use Rattle.fdr.specs.Walk.{inFront, behind}
 use Rattle.fdr.specs.declared.record.Record.{Record}
 use Rattle.fdr.specs.declared.record.Record.the-variants.{NewBuffer, EndOfBuffer, NewCpuId, WallTime}
@@ -21,9 +22,9 @@ use Rattle.fdr.specs.declared.grammar.Threads.the-variants.{One}
 use Rattle.fdr.specs.declared.grammar.Joined.the-variants.{Agreed}
 use Rattle.fdr.specs.declared.walk.Position.{Position}
 use Rattle.fdr.proofs.Bounds.{Bounded}
-use Rattle.fdr.proofs.Writing.{length-record}
+use Rattle.record_writer.proofs.Writing.{length-record}
 use Rattle.fdr.proofs.Walking.{in-front, in-buffer}
-use Rattle.fdr.proofs.ReadBack.{Here, length-for}
+use Rattle.record_writer.proofs.ReadBack.{Here, length-for}
 use Rattle.log_writer.specs.declared.Writer.{Writer}
 use Rattle.log_writer.specs.Call.{opening, adding, closing, isOpen, stageAfter, takes, callBytes, stateAfter}
 use Rattle.log_writer.specs.Session.{plain, entriesOf}

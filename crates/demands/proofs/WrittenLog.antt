@@ -9,7 +9,7 @@ use lib.Dec.{lit≤}
 use lib.ListN.{length, take}
 use lib.Seq.{length-take-le, getD-take}
 use Rattle.fdr.specs.Number.{byteAt}
-use Rattle.fdr.specs.Writing.{headerBytes}
+use Rattle.fdr.specs.Encoded.{headerBytes}
 use Rattle.fdr.specs.Header.{passed, openedWithin, longest}
 use Rattle.fdr.specs.Walk.{inFront}
 use Rattle.fdr.specs.Trace.{Trace, done, traceFrom, trace, finished}
