@@ -13,7 +13,7 @@ use Rattle.fdr.specs.Encoded.{headerBytes}
 use Rattle.fdr.specs.Header.{passed, headerOf, openedWithin, longest}
 use Rattle.fdr.specs.declared.header.Header.{Header}
 use Rattle.fdr.proofs.Numbers.{number-agree}
-use Rattle.record_writer.proofs.Storing.{number-bytes}
+use Rattle.record_writer.proofs.Bytes.{number-bytes}
 use Rattle.fdr.proofs.Opening.{sizesRight, opens}
 
 bits-back : (constant nonstop : Bool) → (constantTscIn (bitfieldOf constant nonstop) ≡ cond constant 1 0) × (nonstopTscIn (bitfieldOf constant nonstop) ≡ cond nonstop 1 0) × (bitfieldOf constant nonstop < 256 ^ 4)
