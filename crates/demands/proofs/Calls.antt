@@ -8,15 +8,16 @@ use borrow.Author.Tests.{ltb-false, not-false, eq-eqb}
 use lib.ListN.{length, length-append}
 use Rattle.fdr.specs.Number.{byteAt}
 use Rattle.fdr.specs.Grammar.{agreedWith}
-use Rattle.fdr.specs.Writing.{recordBytes, eventOf, sizedBy, bytesFor, fieldTests}
-use Rattle.fdr.specs.RoundTrip.{Typed}
+use Rattle.fdr.specs.Encoded.{recordBytes}
+use Rattle.record_writer.specs.Writing.{eventOf, sizedBy, bytesFor, fieldTests}
+use Rattle.record_writer.specs.RoundTrip.{Typed}
 use Rattle.fdr.specs.declared.record.Record.{Record}
 use Rattle.fdr.specs.declared.grammar.Stage.the-variants.{Between}
 use Rattle.fdr.specs.declared.grammar.Threads.{Threads}
 use Rattle.fdr.specs.declared.grammar.Threads.the-variants.{Unseen, One}
 use Rattle.fdr.specs.declared.grammar.Joined.the-variants.{Agreed}
 use Rattle.fdr.specs.declared.walk.Position.{Position}
-use Rattle.fdr.proofs.ReadBack.{Here}
+use Rattle.record_writer.proofs.ReadBack.{Here}
 use Rattle.log_writer.specs.declared.Writer.{Writer}
 use Rattle.log_writer.specs.Start.{Outcome, went, denied, put}
 use Rattle.log_writer.specs.Call.{Call, opening, adding, closing, isOpen, takes, callBytes, stateAfter, callTests, called, outputCalled}

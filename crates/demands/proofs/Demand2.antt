@@ -13,7 +13,7 @@ use Rattle.fdr.specs.Trace.{done, traceFrom, trace, finished}
 use Rattle.fdr.specs.declared.grammar.Stage.the-variants.{Between}
 use Rattle.fdr.specs.declared.grammar.Threads.the-variants.{Unseen}
 use Rattle.fdr.proofs.Tracing.{trace-passed}
-use Rattle.fdr.proofs.Rewriting.{roundTrips}
+use Rattle.record_writer.proofs.Rewriting.{roundTrips}
 use Rattle.log_writer.specs.declared.Writer.{Writer}
 use Rattle.log_writer.specs.Start.{put, fresh, startTests, started, outputStarted}
 use Rattle.log_writer.specs.Session.{Logged}

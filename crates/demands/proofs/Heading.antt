@@ -9,10 +9,10 @@ use lib.Dec.{lit≤, ltb, eqb}
 use lib.ListN.{length}
 use Rattle.fdr.specs.Number.{byteAt, number, bytesOf, zeros}
 use Rattle.fdr.specs.Bits.{bitfieldOf, constantTscIn, nonstopTscIn}
-use Rattle.fdr.specs.Writing.{headerBytes}
+use Rattle.fdr.specs.Encoded.{headerBytes}
 use Rattle.fdr.specs.Header.{passed, headerOf, openedWithin, longest}
 use Rattle.fdr.proofs.Numbers.{number-agree}
-use Rattle.fdr.proofs.Storing.{number-bytes}
+use Rattle.record_writer.proofs.Bytes.{number-bytes}
 use Rattle.fdr.proofs.Opening.{sizesRight, opens}
 use Rattle.demands.specs.Demand2.{fixed}
 

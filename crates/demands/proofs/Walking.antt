@@ -9,8 +9,9 @@ use lib.ListN.{length, take, drop, length-append}
 use Rattle.fdr.specs.Number.{zeros}
 use Rattle.fdr.specs.Record.{sizeOf, eventSize}
 use Rattle.fdr.specs.Grammar.{follows, agreedWith, joinedBy}
-use Rattle.fdr.specs.Writing.{recordBytes, eventOf, sizedBy, bytesFor}
-use Rattle.fdr.specs.RoundTrip.{Typed}
+use Rattle.fdr.specs.Encoded.{recordBytes}
+use Rattle.record_writer.specs.Writing.{eventOf, sizedBy, bytesFor}
+use Rattle.record_writer.specs.RoundTrip.{Typed}
 use Rattle.fdr.specs.Walk.{went, inFront, behind, threadTest, grammarTest, stepIn, next}
 use Rattle.fdr.specs.Trace.{item, done, traceFrom, finished}
 use Rattle.fdr.specs.declared.record.Record.{Record}
@@ -25,10 +26,10 @@ use Rattle.fdr.specs.declared.walk.Position.{Position}
 use Rattle.fdr.proofs.Bounds.{Bounded}
 use Rattle.fdr.proofs.Records.{sized-some}
 use Rattle.fdr.proofs.Decoding.{Placed, found-at}
-use Rattle.fdr.proofs.Writing.{length-record}
+use Rattle.record_writer.proofs.Writing.{length-record}
 use Rattle.fdr.proofs.Walking.{step-found, log-over, in-front, in-buffer}
 use Rattle.fdr.proofs.Tracing.{trace-next}
-use Rattle.fdr.proofs.ReadBack.{Here, decoded-back, length-for}
+use Rattle.record_writer.proofs.ReadBack.{Here, decoded-back, length-for}
 use Rattle.log_writer.specs.declared.Writer.{Writer}
 use Rattle.log_writer.specs.Call.{opening, adding, closing, isOpen, stageAfter, takes, callBytes, stateAfter}
 use Rattle.log_writer.specs.Session.{Logged, eventless, loggedBy}

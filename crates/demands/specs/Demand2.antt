@@ -8,7 +8,7 @@ use lib.ListN.{length, take, drop}
 use Rattle.fdr.specs.Record.{sizeOf, eventSize}
 use Rattle.fdr.specs.Header.{passed, openedWithin, longest}
 use Rattle.fdr.specs.Trace.{Trace, item, done, refusedAt, trace, wellFormed}
-use Rattle.fdr.specs.RoundTrip.{RoundTrips}
+use Rattle.record_writer.specs.RoundTrip.{RoundTrips}
 use Rattle.fdr.specs.declared.record.Record.{Record}
 use Rattle.fdr.specs.declared.header.Header.{Header}
 use Rattle.fdr.specs.declared.grammar.Stage.the-variants.{Between}

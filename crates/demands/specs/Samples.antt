@@ -12,9 +12,9 @@ use Rattle.fdr.specs.Reading.{sizeTest, recordAt}
 use Rattle.fdr.specs.Walk.{stepIn, next}
 use Rattle.fdr.specs.Trace.{walked, traceFrom, traceWithin, finished}
 use Rattle.fdr.specs.Hidden.{hiddenIn, hidden}
-use Rattle.fdr.specs.Writing.{metadataBytes, functionBytes, recordBytes, bytesFor}
-use Rattle.fdr.specs.Writing.{headerBytes as headerBytesOf}
-use Rattle.fdr.specs.Sample.{headerBytes, cpuBytes, logBytes, sampleB, sampleWrongExit, sampleAbandoned, sampleBackward, sampleNested, sampleShortest, sampleTooShort, sampleClock, sampleArgument}
+use Rattle.record_writer.specs.Writing.{bytesFor}
+use Rattle.fdr.specs.Encoded.{functionBytes, metadataBytes, recordBytes, headerBytes}
+use Rattle.fdr.specs.Sample.{sampleHeader, logBytes, sampleB, sampleWrongExit, sampleAbandoned, sampleBackward, sampleNested, sampleShortest, sampleTooShort, sampleClock, sampleArgument}
 use Rattle.replay.specs.Row.{rowOf, flat, tableOf}
 use Rattle.replay.specs.Row.{zeros as blanks}
 use Rattle.replay.specs.Stack.{nearest, abandonAll}
@@ -46,9 +46,9 @@ pub record Refused (log : List ℕ) (n place : ℕ) : Type 0 where
 
 pub record StarredSamples : Type 0 where
   -- "A bare header: no rows, all counts 0."
-  pub bare : Accepted (headerBytes 96) [] 0 0 0 0
+  pub bare : Accepted (sampleHeader 96) [] 0 0 0 0
   -- "31 bytes: 1."
-  pub short : Refused (take 31 (headerBytes 96)) 1 0
+  pub short : Refused (take 31 (sampleHeader 96)) 1 0
   -- "one row 5, 1, 1, 0, 0, 30; 1 buffer, 6 records, 0 open"
   pub b : Accepted sampleB (5 ∷ 1 ∷ 1 ∷ 0 ∷ 0 ∷ 30 ∷ []) 1 1 6 0
   -- "B with id 6 in its Exit: 10 at place 88."
@@ -73,7 +73,7 @@ pub record StarredSamples : Type 0 where
   pub compared : Comparisons
 
 pub starredSamples : StarredSamples
-unfolding lent zeros bytesOf headerBytes metadataBytes functionBytes cpuBytes logBytes sampleB sampleWrongExit sampleAbandoned sampleBackward sampleNested sampleShortest sampleTooShort sampleClock sampleArgument number functionAt metadataAt decoded headerOf headerTests openedWithin sizeTest recordAt stepIn next walked traceFrom traceWithin rowOf flat blanks tableOf nearest abandonAll enteredIn entered closed leftTo left called moved step replayed meaning recordsIn buffersIn answer tableAfter
+unfolding lent zeros bytesOf functionBytes metadataBytes recordBytes headerBytes sampleHeader logBytes sampleB sampleWrongExit sampleAbandoned sampleBackward sampleNested sampleShortest sampleTooShort sampleClock sampleArgument number functionAt metadataAt decoded headerOf headerTests openedWithin sizeTest recordAt stepIn next walked traceFrom traceWithin rowOf flat blanks tableOf nearest abandonAll enteredIn entered closed leftTo left called moved step replayed meaning recordsIn buffersIn answer tableAfter
 starredSamples = record {
   bare = record { counts = refl; table = refl };
   short = record { number = refl; counts = refl; table = refl };
@@ -100,7 +100,7 @@ unfoldable pub dirtyB : List ℕ
 dirtyB = filled 24 8 (filled 35 13 (filled 61 3 (filled 75 5 (filled 97 31 sampleB))))
 
 pub scrubbedB : (scrubbing dirtyB ≡ scrubbed) × (bytesAfter dirtyB ≡ sampleB)
-unfolding filled dirtyB zeros bytesOf headerBytes metadataBytes functionBytes cpuBytes logBytes sampleB number functionAt metadataAt decoded headerOf headerTests openedWithin sizeTest recordAt stepIn next walked traceFrom traceWithin finished hiddenIn hidden ending zeroedFrom bytesAfter
+unfolding filled dirtyB zeros bytesOf functionBytes metadataBytes recordBytes headerBytes sampleHeader logBytes sampleB number functionAt metadataAt decoded headerOf headerTests openedWithin sizeTest recordAt stepIn next walked traceFrom traceWithin finished hiddenIn hidden ending zeroedFrom bytesAfter
 scrubbedB = (refl, refl)
 
 -- B written by the log writer, into an output of 128 bytes of 7.
@@ -108,5 +108,5 @@ abbrev pub callsOfB : List Call
 callsOfB = opening 0 0 0 1000 ∷ adding (Function 0 5 10) [] ∷ adding (Function 1 5 30) [] ∷ closing ∷ []
 
 pub writtenB : outputIn (fresh 96 7) callsOfB (outputStarted 1000000000 true true 96 7 (replicate 128 7)) ≡ sampleB
-unfolding zeros bytesOf headerBytes metadataBytes functionBytes recordBytes bytesFor cpuBytes logBytes sampleB headerBytesOf put started outputStarted reachable inBuffer standing sound stageAfter takes callBytes stateAfter callTests calledOn outputCalled outputIn
+unfolding zeros bytesOf functionBytes metadataBytes recordBytes headerBytes sampleHeader logBytes sampleB bytesFor put started outputStarted reachable inBuffer standing sound stageAfter takes callBytes stateAfter callTests calledOn outputCalled outputIn
 writtenB = refl

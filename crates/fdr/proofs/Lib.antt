@@ -1,11 +1,8 @@
 pub mod Cases
 pub mod Refusals
 pub mod Numbers
-pub mod Storing
 pub mod Records
 pub mod Decoding
-pub mod Writing
-pub mod HeaderWriting
 pub mod Opening
 pub mod Walking
 pub mod Tracing
@@ -16,5 +13,3 @@ pub mod Fields
 pub mod Hiding
 pub mod Overwriting
 pub mod Covering
-pub mod ReadBack
-pub mod Rewriting

@@ -8,7 +8,7 @@ use native.Mathlib.Omega.{arith}
 use lib.Dec.{leb, ltb}
 use lib.ListN.{length}
 use Rattle.fdr.specs.Number.{byteAt, number}
-use Rattle.fdr.specs.Record.{sizeOf, visible}
+use Rattle.fdr.specs.Record.{Shape, shapeOf, sizeOf, visible}
 use Rattle.fdr.specs.Decoded.{known, decoded}
 use Rattle.fdr.specs.Header.{Opening, passed, failed, headerOf, headerTests, openedWithin, longest}
 use Rattle.fdr.specs.Reading.{Reading, found, refused, recordAt}
@@ -26,7 +26,7 @@ use Rattle.fdr.proofs.Numbers.{Agree, number-agree}
 use Rattle.fdr.proofs.Records.{visible-size}
 use Rattle.fdr.proofs.Decoding.{Placed, placed, found-at}
 use Rattle.fdr.proofs.Walking.{step-found}
-use Rattle.fdr.proofs.Tracing.{Forward, forward, gone-in, trace-passed}
+use Rattle.fdr.proofs.Tracing.{Says, step-says, Forward, forward, trace-passed}
 use Rattle.fdr.proofs.Hiding.{before-range, behind-range, shown-of, shown-behind, hidden-later, header-first}
 use Rattle.fdr.proofs.Agreement.{next-agree}
 use Rattle.fdr.proofs.Visible.{Like, decoded-visible}
@@ -37,16 +37,17 @@ shownStep over = over
 shownStep (went r q) = went (shown r) q
 shownStep (stopped n at) = stopped n at
 
-shown-size : (r : Record) → sizeOf (shown r) ≡ sizeOf r
+-- A record without what is hidden in it has its shape.
+shown-shape : (r : Record) → shapeOf (shown r) ≡ shapeOf r
 unfolding shown
-shown-size (NewBuffer t) = refl
-shown-size EndOfBuffer = refl
-shown-size (NewCpuId c t) = refl
-shown-size (TscWrap t) = refl
-shown-size (WallTime s m) = refl
-shown-size (CustomEvent n t) = refl
-shown-size (CallArgument v) = refl
-shown-size (Function a f d) = refl
+shown-shape (NewBuffer t) = refl
+shown-shape EndOfBuffer = refl
+shown-shape (NewCpuId c t) = refl
+shown-shape (TscWrap t) = refl
+shown-shape (WallTime s m) = refl
+shown-shape (CustomEvent n t) = refl
+shown-shape (CallArgument v) = refl
+shown-shape (Function a f d) = refl
 
 -- The grammar, the event and the thread are tested alike.
 module _ (p : Position) (e n : ℕ) where
@@ -83,7 +84,8 @@ module _ (p : Position) (e n : ℕ) where
 module _ (s t : List ℕ) (p : Position) (r : Record) (q : Position) (long : length s ≡ length t) (same : Agree s t (p .place) (p .place + visible r)) where
   alike : (e n : ℕ) → Placed s e (p .place) r n → Like r (decoded t (p .place)) → tested p e n r ≡ shownStep (stepIn t p e)
   alike e n at like =
-      let size : sizeOf r ≡ sizeOf (like .other) = sym (shown-size r) ∙ ap sizeOf (like .same) ∙ shown-size (like .other) in
+      let shape : shapeOf r ≡ shapeOf (like .other) = sym (shown-shape r) ∙ ap shapeOf (like .same) ∙ shown-shape (like .other) in
+      let size : sizeOf r ≡ sizeOf (like .other) = ap (λ (x : Shape). x .size) shape in
       let there : recordAt t e (p .place) ≡ found (like .other) n = found-at t e (p .place) (like .other) n (record { is = like .is; starts = at .starts; behind = omega (arith, at .behind); within = at .within; inLog = omega (arith, at .inLog) }) in
       shown-tested p e n r ∙ ap (tested p e n) (like .same) ∙ sym (shown-tested p e n (like .other)) ∙ ap shownStep (sym (step-found t p e (like .other) n there))
 
@@ -96,7 +98,7 @@ module _ (s t : List ℕ) (p : Position) (r : Record) (q : Position) (long : len
       go (found x n) d w =
           let at : Placed s e (p .place) x n = placed s e (p .place) x n d in
           let is : decoded s (p .place) ≡ known x = at .is in
-          let here : decoded s (p .place) ≡ known r = gone-in s p e r q z .placed .is in
+          let here : decoded s (p .place) ≡ known r = subst (Says s p) z (step-says s p e) .placed .is in
           let one : r ≡ x = cc in
           ap (tested p e n) (sym one) ∙ alike e n (subst (λ (y : Record). Placed s e (p .place) y n) (sym one) at) (decoded-visible s t (p .place) r here same)
 
@@ -189,21 +191,10 @@ finished-shown (item place r after rest) = finished-shown rest
 finished-shown done = refl
 finished-shown (refusedAt n place) = refl
 
-shown-visible : (r : Record) → visible r ≡ visible (shown r)
-unfolding shown
-shown-visible (NewBuffer t) = refl
-shown-visible EndOfBuffer = refl
-shown-visible (NewCpuId c t) = refl
-shown-visible (TscWrap t) = refl
-shown-visible (WallTime s m) = refl
-shown-visible (CustomEvent n t) = refl
-shown-visible (CallArgument v) = refl
-shown-visible (Function a f d) = refl
-
 hidden-shown : (t : Trace) (i : ℕ) → hiddenIn t i ≡ hiddenIn (shownIn t) i
 unfolding hiddenIn shownIn
 hidden-shown (item place r after rest) i =
-    ap (λ (n : ℕ). within (place + n) after i || hiddenIn rest i) (shown-visible r)
+    ap (λ (x : Shape). within (place + x .visible) after i || hiddenIn rest i) (sym (shown-shape r))
     ∙ ap (λ (b : Bool). within (place + visible (shown r)) after i || b) (hidden-shown rest i)
 hidden-shown done i = refl
 hidden-shown (refusedAt n place) i = refl

@@ -6,12 +6,10 @@ pub mod Table
 pub mod Decoded
 pub mod Header
 pub mod Reading
-pub mod Writing
 pub mod Grammar
 pub mod Walk
 pub mod Trace
 pub mod Hidden
-pub mod RoundTrip
+pub mod Encoded
 pub mod Sample
 pub mod FirstByte
-pub mod InRange

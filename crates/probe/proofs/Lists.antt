@@ -6,7 +6,7 @@ use native.Mathlib.Omega.{arith}
 use lib.ListN.{length, getD, List·getD-eq-default}
 use Rattle.fdr.specs.Header.{Opening, passed, failed}
 use Rattle.fdr.specs.Reading.{Reading, found, refused}
-use Rattle.fdr.specs.Writing.{Writing, wrote, denied}
+use Rattle.record_writer.specs.Writing.{Writing, wrote, denied}
 use Rattle.fdr.specs.Walk.{Stepping, over, went, stopped}
 use Rattle.fdr.specs.declared.record.Record.{Record}
 use Rattle.fdr.specs.declared.record.Record.the-variants.{Function, NewBuffer, EndOfBuffer, NewCpuId, TscWrap, WallTime, CustomEvent, CallArgument}

@@ -6,7 +6,7 @@ use lib.Dec.{eqb, ltb}
 use lib.ListN.{length, getD}
 use Rattle.fdr.specs.Header.{Opening, passed, failed}
 use Rattle.fdr.specs.Reading.{Reading, found, refused}
-use Rattle.fdr.specs.Writing.{Writing, wrote, denied}
+use Rattle.record_writer.specs.Writing.{Writing, wrote, denied}
 use Rattle.fdr.specs.Walk.{Stepping, over, went, stopped}
 use Rattle.scrub.specs.Scrub.{Scrubbing, scrubbed}
 use Rattle.log_writer.specs.Start.{Outcome}

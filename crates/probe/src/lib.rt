@@ -9,7 +9,7 @@ ghost use lib.ListN.{length, getD};
 ghost use Rattle.fdr.specs.Header.{openedWithin, longest};
 ghost use Rattle.fdr.specs.Reading.{reading, eventAt};
 ghost use Rattle.fdr.specs.Walk.{next};
-ghost use Rattle.fdr.specs.Writing.{written, outputAfter};
+ghost use Rattle.record_writer.specs.Writing.{written, outputAfter};
 ghost use Rattle.probe.specs.Numbers.{openingNumbers, readingNumbers, eventNumbers, steppingNumbers, positionOf, recordOf, writingNumbers, scrubbingNumbers, writerOf, outcomeNumbers};
 ghost use Rattle.scrub.specs.Scrub.{scrubbing, bytesAfter};
 ghost use Rattle.log_writer.specs.Start.{started, outputStarted};
@@ -99,7 +99,7 @@ pub extern "C" fn probe_write(
     ensures { λ r. ⌜ now (out .exit) ≡ outputAfter (recordOf kind a b c) (now (event .entry)) (now (out .entry)) ⌝ }
 {
     let record = record_of(kind, a, b, c);
-    let numbers = written_numbers(fdr::writer::write_record(record, event, out));
+    let numbers = written_numbers(record_writer::write_record(record, event, out));
     if which < 2 {
         numbers[which as usize]
     } else {

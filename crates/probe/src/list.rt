@@ -3,7 +3,7 @@ ghost use mathlib.Core.Path.{_≡_};
 ghost use Rattle.fdr.specs.Header.{openingOf};
 ghost use Rattle.fdr.specs.Reading.{readingOf};
 ghost use Rattle.fdr.specs.Walk.{steppingOf};
-ghost use Rattle.fdr.specs.Writing.{writingOf};
+ghost use Rattle.record_writer.specs.Writing.{writingOf};
 ghost use Rattle.scrub.specs.Scrub.{scrubbingOf};
 ghost use Rattle.log_writer.specs.Start.{outcomeOf};
 ghost use lib.ListN.{getD};
@@ -15,8 +15,8 @@ use fdr::reader::Read;
 use fdr::record::Record;
 use fdr::walk::Position;
 use fdr::walk::Step;
-use fdr::writer::Written;
 use log_writer::Writer;
+use record_writer::Written;
 
 fn record_numbers(record: Record) -> [u64; 4]
     ensures { λ r. ⌜ r ≡ recordNumbers «record» ⌝ }

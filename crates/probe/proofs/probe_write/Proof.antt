@@ -1,5 +1,5 @@
 -- `probe::probe_write` meets its contract: the list is two numbers long. Assumes nothing.
-use Rattle.fdr.specs.Writing.{written, outputAfter}
+use Rattle.record_writer.specs.Writing.{written, outputAfter}
 use Rattle.fdr.specs.declared.record.Record.{Record}
 use Rattle.probe.proofs.Lists.{past, writing-long}
 use Rattle.probe.specs.Numbers.{recordOf, writingNumbers}

@@ -46,19 +46,25 @@ returns : tie.Need-returns
 returns c = rw (c .before .before .enum-told .given .1, c .enum-told2 .given .1)
 
 returns-2 : tie.Need-returns-2
-returns-2 c = rw (c .before .enum-told .given .1, ne-eqb (kindOf (c .before .before .before .args .«record»)) 0 (not-kind 0 (1 ∷ 2 ∷ 3 ∷ 4 ∷ 5 ∷ 6 ∷ 7 ∷ []) (c .before .before .before .args .«record») tt (c .match2 .keys2)), only)
+returns-2 c =
+    let a = c .before .before .before .args in
+    rw (c .before .enum-told .given .1, ne-eqb (kindOf (a .«record»)) 0 (not-kind 0 (1 ∷ 2 ∷ 3 ∷ 4 ∷ 5 ∷ 6 ∷ 7 ∷ []) (a .«record») tt (c .match2 .keys2)), only)
 
 returns-3 : tie.Need-returns-3
 returns-3 c = rw (c .before .before .enum-told3 .given .1, c .enum-told4 .given .1)
 
 returns-4 : tie.Need-returns-4
-returns-4 c = rw (c .before .enum-told3 .given .1, ne-eqb (kindOf (c .before .before .before .args .«record»)) 4 (not-kind 4 (0 ∷ 1 ∷ 2 ∷ 3 ∷ 5 ∷ 6 ∷ 7 ∷ []) (c .before .before .before .args .«record») tt (c .match3 .keys2)), only)
+returns-4 c =
+    let a = c .before .before .before .args in
+    rw (c .before .enum-told3 .given .1, ne-eqb (kindOf (a .«record»)) 4 (not-kind 4 (0 ∷ 1 ∷ 2 ∷ 3 ∷ 5 ∷ 6 ∷ 7 ∷ []) (a .«record») tt (c .match3 .keys2)), only)
 
 returns-5 : tie.Need-returns-5
 returns-5 c = rw (c .before .before .enum-told5 .given .1, c .enum-told6 .given .1)
 
 returns-6 : tie.Need-returns-6
-returns-6 c = rw (c .before .enum-told5 .given .1, ne-eqb (kindOf (c .before .before .before .args .«record»)) 2 (not-kind 2 (0 ∷ 1 ∷ 3 ∷ 4 ∷ 5 ∷ 6 ∷ 7 ∷ []) (c .before .before .before .args .«record») tt (c .match4 .keys2)), only)
+returns-6 c =
+    let a = c .before .before .before .args in
+    rw (c .before .enum-told5 .given .1, ne-eqb (kindOf (a .«record»)) 2 (not-kind 2 (0 ∷ 1 ∷ 3 ∷ 4 ∷ 5 ∷ 6 ∷ 7 ∷ []) (a .«record») tt (c .match4 .keys2)), only)
 
 returns-7 : tie.Need-returns-7
 returns-7 c = search needs
@@ -67,7 +73,11 @@ returns-8 : tie.Need-returns-8
 returns-8 c = rw (c .before .before .enum-told8 .given .1, c .enum-told9 .given .1)
 
 returns-9 : tie.Need-returns-9
-returns-9 c = c .in-body2 .ensures ∙ sym (rw (c .before .before .enum-told8 .given .1, ne-eqb (kindOf (c .before .before .before .before .args .«record»)) 6 (not-kind 6 (0 ∷ 1 ∷ 2 ∷ 3 ∷ 4 ∷ 5 ∷ 7 ∷ []) (c .before .before .before .before .args .«record») tt (c .before .match5 .keys2))))
+returns-9 c =
+    let a = c .before .before .before .before .args in
+    c .in-body2 .ensures
+    ∙ sym (rw
+    (c .before .before .enum-told8 .given .1, ne-eqb (kindOf (a .«record»)) 6 (not-kind 6 (0 ∷ 1 ∷ 2 ∷ 3 ∷ 4 ∷ 5 ∷ 7 ∷ []) (a .«record») tt (c .before .match5 .keys2))))
 
 pub after-spec : {M : Type 1} → statement M
 after-spec =

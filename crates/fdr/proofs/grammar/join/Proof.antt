@@ -10,7 +10,9 @@ enum-known-record : tie.Need-enum-known-record
 enum-known-record c = search needs
 
 returns : tie.Need-returns
-returns c = same-threads (c .before .args .threads) (c .before .args .«record») (not-kind 0 (1 ∷ 2 ∷ 3 ∷ 4 ∷ 5 ∷ 6 ∷ 7 ∷ []) (c .before .args .«record») tt (c .match .keys2))
+returns c =
+    let a = c .before .args in
+    same-threads (a .threads) (a .«record») (not-kind 0 (1 ∷ 2 ∷ 3 ∷ 4 ∷ 5 ∷ 6 ∷ 7 ∷ []) (a .«record») tt (c .match .keys2))
 
 enum-known-threads : tie.Need-enum-known-threads
 enum-known-threads c = search needs

@@ -25,7 +25,9 @@ mul-result : tie.Need-mul-result
 mul-result c = omega (arith, c .shared-slice-known2 .given (c .before .before .args .at + 1))
 
 add-result-2 : tie.Need-add-result-2
-add-result-2 c = omega (arith, c .shared-slice-known2 .given (c .before .before .args .at), c .shared-slice-known2 .given (c .before .before .args .at + 1))
+add-result-2 c =
+    let a = c .before .before .args in
+    omega (arith, c .shared-slice-known2 .given (a .at), c .shared-slice-known2 .given (a .at + 1))
 
 returns : tie.Need-returns
 unfolding number

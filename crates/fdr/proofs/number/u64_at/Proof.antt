@@ -28,7 +28,9 @@ add-result : tie.Need-add-result
 add-result c = search needs
 
 returns : tie.Need-returns
-returns c = omega (arith, number-add 4 4 (now (c .before .before .before .args .s)) (c .before .before .before .args .at), c .u32-at2 .ensures, c .before .u32-at .ensures)
+returns c =
+    let a = c .before .before .before .args in
+    omega (arith, number-add 4 4 (now (a .s)) (a .at), c .u32-at2 .ensures, c .before .u32-at .ensures)
 
 pub u64-at-spec : {M : Type 1} → statement M
 u64-at-spec =

@@ -23,7 +23,11 @@ refused-requires : tie.Need-refused-requires
 refused-requires c κs = search needs
 
 returns : tie.Need-returns
-returns c = ap steppingOf (c .refused .ensures) ∙ sym (may-not (c .before .before .before .before .args .at) (c .before .before .before .before .args .end) (c .before .before .before .before .args .«record») (c .before .before .before .before .args .behind) _ (sym (c .before .before .before .after .ensures) ∙ c .before .enum-told .given .1))
+returns c =
+    let a = c .before .before .before .before .args in
+    ap steppingOf (c .refused .ensures)
+    ∙ sym
+    (may-not (a .at) (a .end) (a .«record») (a .behind) _ (sym (c .before .before .before .after .ensures) ∙ c .before .enum-told .given .1))
 
 event-size-requires : tie.Need-event-size-requires
 event-size-requires c κs = search needs
@@ -35,7 +39,12 @@ refused-requires-2 : tie.Need-refused-requires-2
 refused-requires-2 c κs = search needs
 
 returns-2 : tie.Need-returns-2
-returns-2 c = ap steppingOf (c .refused2 .ensures) ∙ sym (event-past (c .before .before .before .before .before .before .before .args .at) (c .before .before .before .before .before .before .before .args .end) (c .before .before .before .before .before .before .before .args .«record») (c .before .before .before .before .before .before .before .args .behind) _ _ (sym (c .before .before .before .before .before .before .after .ensures) ∙ c .before .before .before .before .followed .given .1) (omega (arith, c .before .if1 .taken, c .before .before .event-size .ensures, c .before .before .before .before .before .before .before .pre)))
+returns-2 c =
+    let a = c .before .before .before .before .before .before .before .args in
+    ap steppingOf (c .refused2 .ensures)
+    ∙ sym (event-past (a .at) (a .end) (a .«record») (a .behind) _ _
+    (sym (c .before .before .before .before .before .before .after .ensures) ∙ c .before .before .before .before .followed .given .1)
+    (omega (arith, c .before .if1 .taken, c .before .before .event-size .ensures, c .before .before .before .before .before .before .before .pre)))
 
 join-requires : tie.Need-join-requires
 join-requires c κs = search needs
@@ -50,7 +59,13 @@ refused-requires-3 : tie.Need-refused-requires-3
 refused-requires-3 c κs = search needs
 
 returns-3 : tie.Need-returns-3
-returns-3 c = ap steppingOf (c .refused3 .ensures) ∙ sym (other-thread (c .before .before .before .before .before .before .before .before .before .before .args .at) (c .before .before .before .before .before .before .before .before .before .before .args .end) (c .before .before .before .before .before .before .before .before .before .before .args .«record») (c .before .before .before .before .before .before .before .before .before .before .args .behind) _ _ (sym (c .before .before .before .before .before .before .before .before .before .after .ensures) ∙ c .before .before .before .before .before .before .before .followed .given .1) (omega (arith, c .before .before .before .before .if1 .left, c .before .before .before .before .before .event-size .ensures, c .before .before .before .before .before .before .before .before .before .before .pre)) (sym (c .before .before .before .join .ensures) ∙ c .before .enum-told2 .given .1))
+returns-3 c =
+    let a = c .before .before .before .before .before .before .before .before .before .before .args in
+    ap steppingOf (c .refused3 .ensures)
+    ∙ sym (other-thread (a .at) (a .end) (a .«record») (a .behind) _ _
+    (sym (c .before .before .before .before .before .before .before .before .before .after .ensures) ∙ c .before .before .before .before .before .before .before .followed .given .1)
+    (omega (arith, c .before .before .before .before .if1 .left, c .before .before .before .before .before .event-size .ensures, c .before .before .before .before .before .before .before .before .before .before .pre))
+    (sym (c .before .before .before .join .ensures) ∙ c .before .enum-told2 .given .1))
 
 add-place-after : tie.Need-add-place-after
 add-place-after c = search needs
@@ -59,10 +74,22 @@ enum-told-3 : tie.Need-enum-told-3
 enum-told-3 c = search needs
 
 returns-4 : tie.Need-returns-4
-returns-4 c = sym (crossed (c .before .before .before .before .before .before .before .before .before .before .before .before .args .at) (c .before .before .before .before .before .before .before .before .before .before .before .before .args .end) (c .before .before .before .before .before .before .before .before .before .before .before .before .args .«record») (c .before .before .before .before .before .before .before .before .before .before .before .before .args .behind) _ _ (sym (c .before .before .before .before .before .before .before .before .before .before .before .after .ensures) ∙ c .before .before .before .before .before .before .before .before .before .followed .given .1) (omega (arith, c .before .before .before .before .before .before .if1 .left, c .before .before .before .before .before .before .before .event-size .ensures, c .before .before .before .before .before .before .before .before .before .before .before .before .pre)) _ (sym (c .before .before .before .before .before .join .ensures) ∙ c .before .before .before .joined .given .1) (ap kindOf (c .enum-told3 .given .1)))
+returns-4 c =
+    let a = c .before .before .before .before .before .before .before .before .before .before .before .before .args in
+    sym (crossed (a .at) (a .end) (a .«record») (a .behind) _ _
+    (sym (c .before .before .before .before .before .before .before .before .before .before .before .after .ensures) ∙ c .before .before .before .before .before .before .before .before .before .followed .given .1)
+    (omega (arith, c .before .before .before .before .before .before .if1 .left, c .before .before .before .before .before .before .before .event-size .ensures, c .before .before .before .before .before .before .before .before .before .before .before .before .pre)) _
+    (sym (c .before .before .before .before .before .join .ensures) ∙ c .before .before .before .joined .given .1) (ap kindOf (c .enum-told3 .given .1)))
 
 returns-5 : tie.Need-returns-5
-returns-5 c = sym (went-on (c .before .before .before .before .before .before .before .before .before .before .before .args .at) (c .before .before .before .before .before .before .before .before .before .before .before .args .end) (c .before .before .before .before .before .before .before .before .before .before .before .args .«record») (c .before .before .before .before .before .before .before .before .before .before .before .args .behind) _ _ (sym (c .before .before .before .before .before .before .before .before .before .before .after .ensures) ∙ c .before .before .before .before .before .before .before .before .followed .given .1) (omega (arith, c .before .before .before .before .before .if1 .left, c .before .before .before .before .before .before .event-size .ensures, c .before .before .before .before .before .before .before .before .before .before .before .pre)) _ (sym (c .before .before .before .before .join .ensures) ∙ c .before .before .joined .given .1) _ (c .before .before .before .before .before .before .event-size .ensures) (not-kind 1 (0 ∷ 2 ∷ 3 ∷ 4 ∷ 5 ∷ 6 ∷ 7 ∷ []) (c .before .before .before .before .before .before .before .before .before .before .before .args .«record») tt (c .match3 .keys2)))
+returns-5 c =
+    let a = c .before .before .before .before .before .before .before .before .before .before .before .args in
+    sym (went-on (a .at) (a .end) (a .«record») (a .behind) _ _
+    (sym (c .before .before .before .before .before .before .before .before .before .before .after .ensures) ∙ c .before .before .before .before .before .before .before .before .followed .given .1)
+    (omega (arith, c .before .before .before .before .before .if1 .left, c .before .before .before .before .before .before .event-size .ensures, c .before .before .before .before .before .before .before .before .before .before .before .pre)) _
+    (sym (c .before .before .before .before .join .ensures) ∙ c .before .before .joined .given .1) _
+    (c .before .before .before .before .before .before .event-size .ensures)
+    (not-kind 1 (0 ∷ 2 ∷ 3 ∷ 4 ∷ 5 ∷ 6 ∷ 7 ∷ []) (a .«record») tt (c .match3 .keys2)))
 
 pub admit-spec : {M : Type 1} → statement M
 admit-spec =

@@ -14,7 +14,9 @@ enum-told : tie.Need-enum-told
 enum-told c = search needs
 
 returns : tie.Need-returns
-returns c = sym (log-over (now (c .before .before .before .before .args .log)) (c .before .before .before .before .args .at) (ap inFront (c .before .enum-told .given .1)) (c .if1 .taken))
+returns c =
+    let a = c .before .before .before .before .args in
+    sym (log-over (now (a .log)) (a .at) (ap inFront (c .before .enum-told .given .1)) (c .if1 .taken))
 
 sub-if2 : tie.Need-sub-if2
 sub-if2 c = search needs
@@ -23,7 +25,13 @@ refused-requires : tie.Need-refused-requires
 refused-requires c κs = search needs
 
 returns-2 : tie.Need-returns-2
-returns-2 c = ap steppingOf (c .refused .ensures) ∙ sym (in-front (now (c .before .before .before .before .before .before .before .args .log)) (c .before .before .before .before .before .before .before .args .at) (ap inFront (c .before .before .before .before .enum-told .given .1)) (c .before .before .before .if1 .left) ∙ step-refused (now (c .before .before .before .before .before .before .before .args .log)) (c .before .before .before .before .before .before .before .args .at) _ _ _ (sym (past-log _ _ _ (omega (arith, c .before .if2 .taken, c .before .before .before .if1 .left)))))
+returns-2 c =
+    let a = c .before .before .before .before .before .before .before .args in
+    ap steppingOf (c .refused .ensures)
+    ∙ sym (in-front (now (a .log)) (a .at)
+    (ap inFront (c .before .before .before .before .enum-told .given .1)) (c .before .before .before .if1 .left)
+    ∙ step-refused (now (a .log)) (a .at) _ _ _
+    (sym (past-log _ _ _ (omega (arith, c .before .if2 .taken, c .before .before .before .if1 .left)))))
 
 add-step-in : tie.Need-add-step-in
 add-step-in c = search needs
@@ -32,13 +40,19 @@ step-in-requires : tie.Need-step-in-requires
 step-in-requires c κs = search needs
 
 returns-3 : tie.Need-returns-3
-returns-3 c = c .step-in .ensures ∙ sym (in-front (now (c .before .before .before .before .before .before .before .before .args .log)) (c .before .before .before .before .before .before .before .before .args .at) (ap inFront (c .before .before .before .before .before .enum-told .given .1)) (c .before .before .before .before .if1 .left))
+returns-3 c =
+    let a = c .before .before .before .before .before .before .before .before .args in
+    c .step-in .ensures
+    ∙ sym
+    (in-front (now (a .log)) (a .at) (ap inFront (c .before .before .before .before .before .enum-told .given .1)) (c .before .before .before .before .if1 .left))
 
 step-in-requires-2 : tie.Need-step-in-requires-2
 step-in-requires-2 c κs = search needs
 
 returns-4 : tie.Need-returns-4
-returns-4 c = c .step-in2 .ensures ∙ sym (in-buffer (now (c .before .before .before .args .log)) (c .before .before .before .args .at) (not-in-front (c .before .before .before .args .at .stage) (c .before .match .keys2)))
+returns-4 c =
+    let a = c .before .before .before .args in
+    c .step-in2 .ensures ∙ sym (in-buffer (now (a .log)) (a .at) (not-in-front (a .at .stage) (c .before .match .keys2)))
 
 pub next-spec : {M : Type 1} → statement M
 next-spec =

@@ -25,10 +25,20 @@ refused-requires : tie.Need-refused-requires
 refused-requires c κs = search needs
 
 returns : tie.Need-returns
-returns c = c .admit .ensures ∙ sym (step-found (now (c .before .before .before .before .before .before .args .log)) (c .before .before .before .before .before .before .args .at) _ _ _ (sym (c .before .before .before .before .record-at .ensures) ∙ ap readingOf (c .before .before .read .given .1)))
+returns c =
+    c .admit .ensures
+    ∙ sym (step-found
+    (now (c .before .before .before .before .before .before .args .log))
+    (c .before .before .before .before .before .before .args .at) _ _ _
+    (sym (c .before .before .before .before .record-at .ensures) ∙ ap readingOf (c .before .before .read .given .1)))
 
 returns-2 : tie.Need-returns-2
-returns-2 c = ap steppingOf (c .refused .ensures) ∙ sym (step-refused (now (c .before .before .before .before .before .before .args .log)) (c .before .before .before .before .before .before .args .at) _ _ _ (sym (c .before .before .before .before .record-at .ensures) ∙ ap readingOf (c .before .before .read2 .given .1)))
+returns-2 c =
+    ap steppingOf (c .refused .ensures)
+    ∙ sym (step-refused
+    (now (c .before .before .before .before .before .before .args .log))
+    (c .before .before .before .before .before .before .args .at) _ _ _
+    (sym (c .before .before .before .before .record-at .ensures) ∙ ap readingOf (c .before .before .read2 .given .1)))
 
 pub step-in-spec : {M : Type 1} → statement M
 step-in-spec =

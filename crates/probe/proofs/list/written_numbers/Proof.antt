@@ -1,6 +1,6 @@
 -- `probe::list::written_numbers` meets its contract: case by case. Assumes nothing.
-use Rattle.fdr.specs.declared.writer.Written.{Written}
-use Rattle.fdr.specs.Writing.{writingOf}
+use Rattle.record_writer.specs.declared.Written.{Written}
+use Rattle.record_writer.specs.Writing.{writingOf}
 use Rattle.probe.specs.Numbers.{writingNumbers}
 use mathlib.Core.List.{[], _∷_}
 use Prim.Native.Nat.{ℕ}
