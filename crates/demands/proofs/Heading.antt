@@ -34,7 +34,7 @@ module _ (frequency : ℕ) (constant nonstop : Bool) (size : ℕ) where
   module _ (s : List ℕ) (few : frequency < 2 ^ 64) (least : 64 ≤ size) (most : size ≤ 16777184) (long : 32 ≤ length s) (short : length s ≤ longest)
       (whole : (length s - 32) % size ≡ 0) (same : (i : ℕ) → i < 32 → byteAt s i ≡ byteAt heading i) where
     part : (k at : ℕ) → at + k ≤ 32 → number k s at ≡ number k heading at
-    part k at l = number-agree k s heading at (λ i a b. same i (omega arith))
+    part k at l = number-agree k s heading at 0 32 (λ i a b. same i b) (omega arith) l
 
     version-back : number 2 s 0 ≡ 1
     unfolding number bytesOf zeros headerBytes

@@ -20,7 +20,7 @@ use Rattle.fdr.proofs.Tracing.{Forward, forward, same-step}
 -- Decoding depends only on the sixteen bytes at its place.
 module _ (s t : List ℕ) (p : ℕ) (same : Agree s t p (p + 16)) where
   part : (k at : ℕ) → p ≤ at → at + k ≤ p + 16 → number k s at ≡ number k t at
-  part k at lo hi = number-agree k s t at (λ i a b. same i (omega arith) (omega arith))
+  part k at lo hi = number-agree k s t at p (p + 16) same lo hi
 
   first-agree : byteAt s p ≡ byteAt t p
   first-agree = same p (omega arith) (omega arith)

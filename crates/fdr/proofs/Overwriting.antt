@@ -168,7 +168,7 @@ opened-agree limit s t long same =
     rw (long, a, b, c, d, e)
   where
     part : (k at : ℕ) → at + k ≤ 24 → number k s at ≡ number k t at
-    part k at fits = number-agree k s t at (λ i l h. same i (omega arith) (omega arith))
+    part k at fits = number-agree k s t at 0 24 same (omega arith) fits
 
 -- THE LAW OF OVERWRITING: the trace of the new log is the old one's, but for the values of arguments.
 pub overwritten : (s t : List ℕ) → Overwritten s t → shownIn (trace s) ≡ shownIn (trace t)

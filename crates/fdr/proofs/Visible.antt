@@ -28,7 +28,7 @@ module _ (s t : List ℕ) (p : ℕ) where
   Kept (unknown n) d = Unit
 
   part : (n : ℕ) → Agree s t p (p + n) → (k at : ℕ) → p ≤ at → at + k ≤ p + n → number k s at ≡ number k t at
-  part n same k at lo hi = number-agree k s t at (λ i a b. same i (omega arith) (omega arith))
+  part n same k at lo hi = number-agree k s t at p (p + n) same lo hi
 
   metadata-kept : (k : ℕ) → Kept (metadataAt s p k) (metadataAt t p k)
   unfolding metadataAt shown
