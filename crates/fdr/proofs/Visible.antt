@@ -1,6 +1,6 @@
 -- Decoding depends only on the visible bytes of the record that it finds, but for an argument's value. Assumes nothing.
-use Prim.Native.Nat.{ℕ, zero, suc, _+_, _%_, _≤_}
-use mathlib.Core.Path.{_≡_, refl, sym, ap, _∙_, subst}
+use Prim.Native.Nat.{ℕ, zero, suc, _+_, _≤_}
+use mathlib.Core.Path.{_≡_, refl, sym, ap, subst}
 use mathlib.Core.List.{List}
 use native.Mathlib.Omega.{arith}
 use Rattle.fdr.specs.Number.{byteAt, number}
@@ -10,10 +10,9 @@ use Rattle.fdr.specs.Decoded.{Decoded, known, unknown, functionAt, metad
 use Rattle.fdr.specs.Hidden.{shown}
 use Rattle.fdr.specs.declared.record.Record.{Record}
 use Rattle.fdr.specs.declared.record.Record.the-variants.{Function, NewBuffer, EndOfBuffer, NewCpuId, TscWrap, WallTime, CustomEvent, CallArgument}
-use Rattle.fdr.proofs.Cases.{by-eq, by-lt}
 use Rattle.fdr.proofs.Numbers.{Agree, number-agree}
 use Rattle.fdr.proofs.Records.{visible-some}
-use Rattle.fdr.proofs.Decoding.{decoded-function, decoded-action, decoded-metadata}
+use Rattle.fdr.proofs.Decoding.{decoded-function, decoded-metadata, by-family}
 
 -- The same record but for an argument's value.
 pub record Like (r : Record) (d : Decoded) : Type 0 where
@@ -65,15 +64,9 @@ module _ (s t : List ℕ) (p : ℕ) where
 
   decoded-kept : byteAt s p ≡ byteAt t p → Kept (decoded s p) (decoded t p)
   decoded-kept first =
-      by-eq (byteAt s p % 2) 0
-      (λ even. let even' : byteAt t p % 2 ≡ 0 = ap (λ (b : ℕ). b % 2) (sym first) ∙ even in
-      by-lt 3 (actionIn (byteAt s p))
-      (λ above. subst (λ (d : Decoded). Kept d (decoded t p)) (sym (decoded-action s p even above)) tt)
-      (λ l. subst (λ (d : Decoded). Kept d (decoded t p)) (sym (decoded-function s p even l))
-      (subst (λ (d : Decoded). Kept (known (functionAt s p)) d) (sym (decoded-function t p even' (rw first at l))) function-kept)))
-      (λ odd. subst (λ (d : Decoded). Kept d (decoded t p)) (sym (decoded-metadata s p odd))
-      (subst (λ (d : Decoded). Kept (metadataAt s p (kindIn (byteAt s p))) d) (sym (decoded-metadata t p (rw first at odd)))
-      (rw (sym first) (metadata-kept (kindIn (byteAt s p))))))
+      by-family s p (λ d. Kept d (decoded t p)) tt
+      (λ even l. rw (decoded-function t p (rw first at even) (rw first at l)) function-kept)
+      (λ odd. rw (decoded-metadata t p (rw first at odd), sym first) (metadata-kept (kindIn (byteAt s p))))
 
   pub decoded-visible : (r : Record) → decoded s p ≡ known r → Agree s t p (p + visible r) → Like r (decoded t p)
   decoded-visible r e same = subst (λ (d : Decoded). Kept d (decoded t p)) e (decoded-kept (same p (omega arith) (omega (arith, visible-some r)))) same
