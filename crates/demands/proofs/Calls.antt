@@ -23,7 +23,7 @@ use Rattle.log_writer.specs.Start.{Outcome, went, denied, put}
 use Rattle.log_writer.specs.Call.{Call, opening, adding, closing, isOpen, takes, callBytes, stateAfter, callTests, called, outputCalled}
 use Rattle.log_writer.specs.Session.{Logged, loggedBy, stateIn, outputIn, acceptedIn, TypedCall, TypedCalls}
 use Rattle.log_writer.proofs.Tests.{Passes, went-passes, passes-first, passes-behind}
-use Rattle.log_writer.proofs.Stages.{closed-between}
+use Rattle.log_writer.proofs.Stages.{in-front-between}
 use Rattle.log_writer.proofs.Sound.{Sound, at-end, in-buffer, in-log}
 use Rattle.log_writer.proofs.Taking.{fields-bound}
 use Rattle.log_writer.proofs.Keeping.{same-log, call-sound, called-sound}
@@ -103,7 +103,7 @@ module _ (header : List ℕ) (size room : ℕ) (w : Writer) (out : List ℕ) (lo
   unfolding callTests stateAfter
   accepts (opening seconds micros cpu tsc) typed p =
       put-on (opening seconds micros cpu tsc) p (One (w .thread)) (agreed-again (w .thread))
-      (λ s inLog here. reads-opened s w (h .threads) seconds micros cpu tsc inLog (h .state .least) (closed-between (w .stage) (not-false _ (p .0))) (h .small) (h .agreed) (typed .0) (typed .1) here)
+      (λ s inLog here. reads-opened s w (h .threads) seconds micros cpu tsc inLog (h .state .least) (in-front-between (w .stage) (not-false _ (p .0))) (h .small) (h .agreed) (typed .0) (typed .1) here)
   accepts (adding r given) typed p = added r given typed p
   accepts closing typed p =
       let o : isOpen (w .stage) ≡ true = not-false _ (p .0) in
