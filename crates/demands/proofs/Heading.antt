@@ -37,23 +37,23 @@ module _ (frequency : ℕ) (constant nonstop : Bool) (size : ℕ) where
     part k at l = number-agree k s heading at 0 32 (λ i a b. same i b) (omega arith) l
 
     version-back : number 2 s 0 ≡ 1
-    unfolding number bytesOf zeros headerBytes
+    unfolding number bytesOf headerBytes
     version-back = part 2 0 (lit≤ tt)
 
     type-back : number 2 s 2 ≡ 1
-    unfolding number bytesOf zeros headerBytes
+    unfolding number bytesOf headerBytes
     type-back = part 2 2 (lit≤ tt)
 
     bitfield-back : number 4 s 4 ≡ bitfieldOf constant nonstop
-    unfolding number bytesOf zeros headerBytes
+    unfolding number bytesOf headerBytes
     bitfield-back = part 4 4 (lit≤ tt) ∙ number-bytes 4 (bitfieldOf constant nonstop) (bits-back constant nonstop .2)
 
     frequency-back : number 8 s 8 ≡ frequency
-    unfolding number bytesOf zeros headerBytes
+    unfolding number bytesOf headerBytes
     frequency-back = part 8 8 (lit≤ tt) ∙ number-bytes 8 frequency few
 
     size-back : number 8 s 16 ≡ size
-    unfolding number bytesOf zeros headerBytes
+    unfolding number bytesOf headerBytes
     size-back = part 8 16 (lit≤ tt) ∙ number-bytes 8 size (omega arith)
 
     header-back : headerOf s ≡ fixed frequency constant nonstop size
