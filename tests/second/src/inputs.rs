@@ -5,9 +5,6 @@ use crate::calls;
 use crate::generate;
 use std::path::{Path, PathBuf};
 
-/// The seed of a run where no other is given.
-pub const SEED: u64 = 0x5EED_0000_0000_0000;
-
 /// What a log was made as.
 #[derive(Debug, Clone, Copy, PartialEq, Eq)]
 pub enum Kind {
@@ -45,6 +42,20 @@ impl Kind {
     /// Whether its logs are around 16 MiB long.
     pub fn is_huge(self) -> bool {
         self == Kind::Calls(calls::Kind::Limit) || self == Kind::Logs(generate::Kind::Limit)
+    }
+
+    /// Its place in `Kind::all()`.
+    pub fn index(self) -> usize {
+        match self {
+            Kind::Calls(kind) => kind as usize,
+            Kind::Logs(kind) => calls::Kind::ALL.len() + kind as usize,
+        }
+    }
+
+    /// The names of all kinds, and one more for other logs.
+    pub fn names(others: &str) -> Vec<String> {
+        let kinds = Kind::all().into_iter().map(Kind::name);
+        kinds.chain([others.to_string()]).collect()
     }
 
     pub fn name(self) -> String {

@@ -10,7 +10,6 @@
 
 #![forbid(unsafe_code)]
 
-pub mod arguments;
 pub mod calls;
 pub mod compare;
 pub mod generate;

@@ -1,0 +1,14 @@
+//! What the suites share: the proved code behind safe functions, what it takes
+//! and answers as numbers, the lent tables of a replay, a suite's words, and
+//! what it counts.
+
+#![deny(unsafe_code)]
+
+pub mod answer;
+pub mod counts;
+#[allow(unsafe_code)]
+pub mod proved;
+pub mod record;
+pub mod replaying;
+pub mod state;
+pub mod suite;

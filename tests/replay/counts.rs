@@ -1,0 +1,60 @@
+//! What a run has seen.
+
+use harness::counts::Table;
+use second::inputs::Kind;
+use second::replay::{Answer, TABLE};
+
+/// What a replay can answer.
+const REFUSALS: [usize; 15] = [0, 1, 2, 3, 4, 5, 6, 7, 8, 9, 10, 11, 12, 13, 14];
+/// Tables by their length, and of how many logs all numbers were asked for.
+const TABLES: [&str; 4] = [
+    "too short",
+    "of 6,144 numbers",
+    "longer",
+    "all numbers asked",
+];
+/// What is summed up of accepted logs.
+const SUMS: [&str; 4] = ["rows", "buffers", "records", "open calls"];
+
+pub struct Counts {
+    /// Logs by kind; the last row is for the samples.
+    pub kinds: Table,
+    refusals: Table,
+    tables: Table,
+    sums: Table,
+}
+
+impl Counts {
+    pub fn new() -> Counts {
+        Counts {
+            kinds: Table::counting("kind", "logs", Kind::names("samples")),
+            refusals: Table::refusals("refusals", [("replay", &REFUSALS[..])]),
+            tables: Table::counting("lent tables", "logs", TABLES),
+            sums: Table::counting("of accepted logs", "sum", SUMS),
+        }
+    }
+
+    pub fn answer(&mut self, answer: &Answer, length: usize, whole: bool) {
+        match *answer {
+            Answer::Report {
+                rows,
+                buffers,
+                records,
+                open,
+            } => {
+                self.refusals.count(0, 0);
+                for (row, number) in [rows, buffers, records, open].into_iter().enumerate() {
+                    self.sums.add(row, 0, number);
+                }
+            }
+            Answer::Refused { number, .. } => self.refusals.count(0, usize::from(number)),
+        }
+        let lent = usize::from(length >= TABLE) + usize::from(length > TABLE);
+        self.tables.count(lent, 0);
+        self.tables.add(3, 0, u64::from(whole));
+    }
+
+    pub fn tables(&self) -> [&Table; 4] {
+        [&self.kinds, &self.refusals, &self.tables, &self.sums]
+    }
+}

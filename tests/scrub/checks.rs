@@ -1,0 +1,134 @@
+//! What is checked of one log: the scrubber against the second one; demand 3
+//! where the log is well-formed; and the clause for refused logs.
+
+use crate::counts::Counts;
+use crate::overwriting::{before, overwrite};
+use crate::scrubbing::Scrubbed;
+use harness::replaying::{self, Expected, Lent};
+use second::random::Random;
+use second::replay::{Answer, TABLE};
+use second::scrub::{hidden, scrub, Part};
+
+/// One in this many pairs is replayed with tables that are too short.
+const SHORT: u64 = 20;
+
+pub struct Checks {
+    /// Tables that hold different numbers before.
+    lent: [Lent; 2],
+    pub counts: Counts,
+}
+
+impl Checks {
+    pub fn new() -> Checks {
+        Checks {
+            lent: [Lent::new(1), Lent::new(2)],
+            counts: Counts::new(),
+        }
+    }
+
+    /// All of them; the text tells of a difference.
+    pub fn run(&mut self, log: &[u8], random: &mut Random) -> Result<(), String> {
+        let hidden = hidden(log);
+        let answer = self.scrubbed(log, &hidden, random)?;
+        if (1..=4).contains(&answer) {
+            return Ok(());
+        }
+        let expected = Expected::of(log, TABLE);
+        if answer == 0 {
+            self.overwritten(log, &hidden, &expected, random)?;
+        }
+        match expected.answer {
+            Answer::Refused { place, .. } => {
+                self.refused(log, &before(&hidden, place), &expected, random)
+            }
+            Answer::Report { .. } => Ok(()),
+        }
+    }
+
+    /// The proved scrubber and the second one: number, place and all bytes.
+    /// Gives the number.
+    fn scrubbed(&mut self, log: &[u8], hidden: &[Part], random: &mut Random) -> Result<u8, String> {
+        let mut after = log.to_vec();
+        let answer = scrub(&mut after);
+        let expected = Scrubbed {
+            answer,
+            after: &after,
+            hidden,
+        };
+        expected.compare(log, random)?;
+        let number = answer.err().map_or(0, |(number, _)| number);
+        self.counts.scrubbed(number, log, hidden);
+        Ok(number)
+    }
+
+    /// Demand 3, on a well-formed log: the same replay and the same scrubbed
+    /// copy for the log and for another that differs in hidden bytes only.
+    fn overwritten(
+        &mut self,
+        log: &[u8],
+        parts: &[Part],
+        replayed: &Expected,
+        random: &mut Random,
+    ) -> Result<(), String> {
+        let mut other = log.to_vec();
+        let way = overwrite(random, &mut other, parts);
+        if hidden(&other) != parts {
+            return Err("second program: other hidden places in the overwritten log".to_string());
+        }
+        let answer = self.replayed([log, &other], replayed, random)?;
+        let mut after = log.to_vec();
+        for part in parts {
+            after[part.bytes.clone()].fill(0);
+        }
+        let expected = Scrubbed {
+            answer: Ok(()),
+            after: &after,
+            hidden: parts,
+        };
+        expected.compare(log, random)?;
+        let named = |text| format!("{text}, in the overwritten log");
+        expected.compare(&other, random).map_err(named)?;
+        if log != other {
+            self.counts.pair([log, &other], parts, &answer, way);
+        }
+        Ok(())
+    }
+
+    /// "For a log refused by 5 to 13, overwriting the hidden bytes that lie
+    /// before the refused place gives the same replay refusal and place."
+    fn refused(
+        &mut self,
+        log: &[u8],
+        parts: &[Part],
+        replayed: &Expected,
+        random: &mut Random,
+    ) -> Result<(), String> {
+        let mut other = log.to_vec();
+        overwrite(random, &mut other, parts);
+        let answer = self.replayed([log, &other], replayed, random)?;
+        if answer == replayed.answer && log != other {
+            self.counts.refused(&answer);
+        }
+        Ok(())
+    }
+
+    /// Replays the log as it was and the overwritten one, at times with tables
+    /// that are too short. Gives the answer to both.
+    fn replayed(
+        &mut self,
+        logs: [&[u8]; 2],
+        expected: &Expected,
+        random: &mut Random,
+    ) -> Result<Answer, String> {
+        let (short, whole) = (random.once_in(SHORT), random.once_in(4));
+        let refused = short.then(|| Expected::of(logs[0], 0));
+        let expected = refused.as_ref().unwrap_or(expected);
+        let names = ["as it was", "overwritten"];
+        for ((lent, log), name) in self.lent.iter_mut().zip(logs).zip(names) {
+            let length = replaying::length(random, short);
+            lent.compare(log, length, whole, expected)
+                .map_err(|text| format!("replay, log {name}, table of {length}: {text}"))?;
+        }
+        Ok(expected.answer)
+    }
+}

@@ -1,0 +1,99 @@
+//! What a run has seen.
+
+use crate::overwriting::Way;
+use harness::counts::Table;
+use second::inputs::Kind;
+use second::replay::Answer;
+use second::scrub::{self, Part};
+
+/// The least bytes of a log of about 16 MiB.
+const HUGE: usize = 16_000_000;
+
+/// What can be answered: by the scrubber, by the replay to both logs of a pair
+/// of well-formed ones, and to both of a pair of refused ones.
+const ANSWERS: [(&str, &[usize]); 3] = [
+    ("scrubber", &[0, 1, 2, 3, 4, 5, 6, 7, 8]),
+    ("pairs, replayed", &[0, 9, 10, 11, 12, 13, 14]),
+    ("refused pairs, replayed", &[5, 6, 7, 8, 9, 10, 11, 12, 13]),
+];
+const SCRUBBED: usize = 0;
+const PAIRS: usize = 1;
+const REFUSED: usize = 2;
+
+/// Of hidden bytes in well-formed logs: all, those that weren't zero, and those
+/// that a pair's other log has another value in.
+const HIDDEN: [&str; 3] = ["bytes", "not zero", "changed"];
+
+pub struct Counts {
+    /// Logs by kind; the last row is for the samples.
+    pub kinds: Table,
+    answers: Table,
+    /// Pairs of well-formed logs by what was overwritten; the last row is for
+    /// those of about 16 MiB.
+    ways: Table,
+    /// By kind of the hidden bytes.
+    hidden: Table,
+}
+
+impl Counts {
+    pub fn new() -> Counts {
+        let mut ways = Way::ALL.map(|way| format!("{way:?}")).to_vec();
+        ways.push("in about 16 MiB".to_string());
+        let hidden = scrub::Kind::ALL.map(|kind| format!("{kind:?}"));
+        Counts {
+            kinds: Table::counting("kind", "logs", Kind::names("samples")),
+            answers: Table::refusals("refusals", ANSWERS),
+            ways: Table::counting("overwritten", "pairs", ways),
+            hidden: Table::grid("hidden", &HIDDEN, hidden),
+        }
+    }
+
+    pub fn scrubbed(&mut self, number: u8, log: &[u8], hidden: &[Part]) {
+        self.answers.count(SCRUBBED, usize::from(number));
+        if number != 0 {
+            return;
+        }
+        for part in hidden {
+            let bytes = &log[part.bytes.clone()];
+            let dirty = bytes.iter().filter(|byte| **byte != 0).count();
+            self.hidden.add(part.kind as usize, 0, bytes.len() as u64);
+            self.hidden.add(part.kind as usize, 1, dirty as u64);
+        }
+    }
+
+    /// A pair of well-formed logs that differ.
+    pub fn pair(&mut self, logs: [&[u8]; 2], hidden: &[Part], replayed: &Answer, way: Way) {
+        self.answers.count(PAIRS, refusal(replayed));
+        self.ways.count(way as usize, 0);
+        if logs[0].len() >= HUGE {
+            self.ways.count(Way::ALL.len(), 0);
+        }
+        for part in hidden {
+            let [one, other] = logs.map(|log| &log[part.bytes.clone()]);
+            let changed = one.iter().zip(other).filter(|(one, other)| one != other);
+            self.hidden
+                .add(part.kind as usize, 2, changed.count() as u64);
+        }
+    }
+
+    /// A pair of refused logs that differ.
+    pub fn refused(&mut self, replayed: &Answer) {
+        self.answers.count(REFUSED, refusal(replayed));
+    }
+
+    /// Logs, pairs of well-formed ones, and pairs of refused ones.
+    pub fn sums(&self) -> [u64; 3] {
+        [SCRUBBED, PAIRS, REFUSED].map(|row| self.answers.sum_of(row))
+    }
+
+    pub fn tables(&self) -> [&Table; 4] {
+        [&self.kinds, &self.answers, &self.ways, &self.hidden]
+    }
+}
+
+fn refusal(answer: &Answer) -> usize {
+    match *answer {
+        Answer::Refused { number, .. } => usize::from(number),
+        Answer::Report { .. } => 0,
+    }
+}

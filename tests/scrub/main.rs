@@ -1,0 +1,69 @@
+//! Compares the proved scrubber with the second one, and runs demand 3 with the
+//! proved replay and scrubber: what differs in hidden bytes alone has the same
+//! replay and the same scrubbed copy. Both on generated logs, on some of about
+//! 16 MiB and on the samples.
+//!
+//! `scrub [LOGS] [--seed SEED]`
+
+#![forbid(unsafe_code)]
+
+mod checks;
+mod counts;
+mod overwriting;
+mod scrubbing;
+
+use checks::Checks;
+use harness::suite::{self, Words};
+use second::calls;
+use second::inputs::{self, Kind};
+use second::random::Random;
+use std::process::ExitCode;
+
+/// Logs where no number is given.
+const LOGS: u64 = 100_000;
+/// Times that each sample is taken.
+const SAMPLED: u64 = 20;
+/// Last digits of the seeds of logs of about 16 MiB: well-formed ones of one
+/// buffer, of 32, and of buffers of 4,096 and of 80 bytes; with 2 one that is a
+/// byte too long; with 8 one whose last buffer names another thread.
+const HUGE: [u64; 8] = [0, 1, 2, 3, 4, 5, 6, 8];
+
+/// Checks one log; the text tells of a difference and of its case.
+fn check(checks: &mut Checks, log: &[u8], name: &str, seed: u64) -> Result<(), String> {
+    let random = &mut Random::new(!seed);
+    checks.run(log, random).map_err(|text| {
+        let length = log.len();
+        format!("difference: {name}, own seed {seed:#018x}, {length} bytes\n  {text}")
+    })
+}
+
+fn run(words: Words) -> Result<String, String> {
+    let (logs, first) = words.cases(LOGS)?;
+    let mut checks = Checks::new();
+    for index in 0..logs {
+        let (kind, seed) = Kind::at(index, first);
+        check(&mut checks, &kind.log(seed), &kind.name(), seed)?;
+        checks.counts.kinds.count(kind.index(), 0);
+    }
+    for digit in HUGE {
+        let seed = first % (1 << 48) * 10 + digit;
+        let log = calls::log(calls::Kind::Limit, seed);
+        check(&mut checks, &log, "log of 16 MiB", seed)?;
+    }
+    for (name, log) in inputs::samples()? {
+        for time in 0..SAMPLED {
+            check(&mut checks, &log, &name, first.wrapping_add(time))?;
+            checks.counts.kinds.count(Kind::all().len(), 0);
+        }
+    }
+    suite::seen(&checks.counts.tables())?;
+    let [logs, pairs, refused] = checks.counts.sums();
+    Ok(format!(
+        "scrub: {logs} logs, {pairs} pairs of well-formed and {refused} of refused ones, \
+         no difference"
+    ))
+}
+
+fn main() -> ExitCode {
+    suite::main(run)
+}
