@@ -1,9 +1,8 @@
 /* The comparison from C: the samples of Paper 01, "Sample logs", and the edges of "Writer and
  * comparison" and of refusals 17 and 18. Each case is tried as it stands and with its sides exchanged.
  */
+#include "checks.h"
 #include "towercloak.h"
-
-#include <stdio.h>
 
 #define MAX UINT64_MAX
 #define GHZ UINT64_C(1000000000)
@@ -21,52 +20,54 @@ struct test {
 
 enum { LOWER = TOWERCLOAK_LOWER, EQUAL = TOWERCLOAK_EQUAL, HIGHER = TOWERCLOAK_HIGHER };
 
-/* frequency, constant_tsc, closed, backward, ticks */
+/* A side is frequency, constant_tsc, closed, backward, ticks. This one is 1 tick at 1 Hz, in one measured call. */
+#define ONE {1, 1, 1, 0, 1}
+
 static const struct test tests[] = {
     {"30 ticks at 3 GHz against 20 at 1 GHz", {3 * GHZ, 1, 1, 0, 30}, {GHZ, 1, 1, 0, 20}, LOWER},
     {"2^64 - 1 in all four factors", {MAX, 1, 1, 0, MAX}, {MAX, 1, 1, 0, MAX}, EQUAL},
     {"10 ns on both sides", {3 * GHZ, 1, 1, 0, 30}, {GHZ, 1, 1, 0, 10}, EQUAL},
 
-    {"17: frequency 0", {0, 1, 1, 0, 1}, {1, 1, 1, 0, 1}, 17},
-    {"17: constant_tsc 0", {1, 0, 1, 0, 1}, {1, 1, 1, 0, 1}, 17},
-    {"17: both of one side", {0, 0, 1, 0, 1}, {1, 1, 1, 0, 1}, 17},
+    {"17: frequency 0", {0, 1, 1, 0, 1}, ONE, 17},
+    {"17: constant_tsc 0", {1, 0, 1, 0, 1}, ONE, 17},
+    {"17: both of one side", {0, 0, 1, 0, 1}, ONE, 17},
     {"17: frequency 0 on both sides", {0, 1, 1, 0, 1}, {0, 1, 1, 0, 1}, 17},
     {"17: constant_tsc 0 on both sides", {1, 0, 1, 0, 1}, {1, 0, 1, 0, 1}, 17},
     {"17: frequency here, constant_tsc there", {0, 1, 1, 0, 1}, {1, 0, 1, 0, 1}, 17},
     {"17: frequency 0, other numbers 2^64 - 1", {0, MAX, MAX, 0, MAX}, {MAX, MAX, MAX, 0, MAX}, 17},
 
     {"17 before 18: all ten numbers 0", {0, 0, 0, 0, 0}, {0, 0, 0, 0, 0}, 17},
-    {"17 before 18: frequency, same side", {0, 1, 0, 0, 1}, {1, 1, 1, 0, 1}, 17},
+    {"17 before 18: frequency, same side", {0, 1, 0, 0, 1}, ONE, 17},
     {"17 before 18: frequency, other side", {0, 1, 1, 0, 1}, {1, 1, 0, 0, 1}, 17},
     {"17 before 18: frequency, 18 on both", {0, 1, 0, 0, 1}, {1, 1, 0, 0, 1}, 17},
-    {"17 before 18: constant_tsc, same side", {1, 0, 0, 0, 1}, {1, 1, 1, 0, 1}, 17},
+    {"17 before 18: constant_tsc, same side", {1, 0, 0, 0, 1}, ONE, 17},
     {"17 before 18: constant_tsc, other side", {1, 0, 1, 0, 1}, {1, 1, 0, 0, 1}, 17},
     {"17 before 18: constant_tsc, 18 on both", {1, 0, 0, 0, 1}, {1, 1, 0, 0, 1}, 17},
 
-    {"constant_tsc 2 is set", {1, 2, 1, 0, 1}, {1, 1, 1, 0, 1}, EQUAL},
-    {"constant_tsc 256 is set", {1, 256, 1, 0, 1}, {1, 1, 1, 0, 1}, EQUAL},
-    {"constant_tsc 2^32 is set", {1, BIT(32), 1, 0, 1}, {1, 1, 1, 0, 1}, EQUAL},
-    {"constant_tsc 2^63 is set", {1, BIT(63), 1, 0, 1}, {1, 1, 1, 0, 1}, EQUAL},
-    {"constant_tsc 2^64 - 1 is set", {1, MAX, 1, 0, 1}, {1, 1, 1, 0, 1}, EQUAL},
+    {"constant_tsc 2 is set", {1, 2, 1, 0, 1}, ONE, EQUAL},
+    {"constant_tsc 256 is set", {1, 256, 1, 0, 1}, ONE, EQUAL},
+    {"constant_tsc 2^32 is set", {1, BIT(32), 1, 0, 1}, ONE, EQUAL},
+    {"constant_tsc 2^63 is set", {1, BIT(63), 1, 0, 1}, ONE, EQUAL},
+    {"constant_tsc 2^64 - 1 is set", {1, MAX, 1, 0, 1}, ONE, EQUAL},
     {"constant_tsc is no factor", {1, 2, 1, 0, 2}, {1, 1, 1, 0, 3}, LOWER},
 
-    {"18: closed 0, backward 0", {1, 1, 0, 0, 1}, {1, 1, 1, 0, 1}, 18},
-    {"18: closed 1, backward 1", {1, 1, 1, 1, 1}, {1, 1, 1, 0, 1}, 18},
-    {"18: closed 1, backward 2", {1, 1, 1, 2, 1}, {1, 1, 1, 0, 1}, 18},
-    {"18: closed 0, backward 2^64 - 1", {1, 1, 0, MAX, 1}, {1, 1, 1, 0, 1}, 18},
-    {"18: closed and backward 2^64 - 1", {1, 1, MAX, MAX, 1}, {1, 1, 1, 0, 1}, 18},
+    {"18: closed 0, backward 0", {1, 1, 0, 0, 1}, ONE, 18},
+    {"18: closed 1, backward 1", {1, 1, 1, 1, 1}, ONE, 18},
+    {"18: closed 1, backward 2", {1, 1, 1, 2, 1}, ONE, 18},
+    {"18: closed 0, backward 2^64 - 1", {1, 1, 0, MAX, 1}, ONE, 18},
+    {"18: closed and backward 2^64 - 1", {1, 1, MAX, MAX, 1}, ONE, 18},
     {"18: closed = backward on both sides", {1, 1, 3, 3, 1}, {1, 1, 3, 3, 1}, 18},
     {"18: all ten numbers 2^64 - 1", {MAX, MAX, MAX, MAX, MAX}, {MAX, MAX, MAX, MAX, MAX}, 18},
     {"18: no ticks on either side", {1, 1, 0, 0, 0}, {1, 1, 0, 0, 0}, 18},
-    {"closed 2, backward 1 is measured", {1, 1, 2, 1, 1}, {1, 1, 1, 0, 1}, EQUAL},
-    {"closed 2^64 - 1, backward 2^64 - 2", {1, 1, MAX, MAX - 1, 1}, {1, 1, 1, 0, 1}, EQUAL},
-    {"closed 2^64 - 1, backward 0", {1, 1, MAX, 0, 1}, {1, 1, 1, 0, 1}, EQUAL},
-    {"closed 2^63, backward 2^63 - 1", {1, 1, BIT(63), BIT(63) - 1, 1}, {1, 1, 1, 0, 1}, EQUAL},
-    {"closed is no divisor", {1, 1, 9, 0, 2}, {1, 1, 1, 0, 1}, HIGHER},
+    {"closed 2, backward 1 is measured", {1, 1, 2, 1, 1}, ONE, EQUAL},
+    {"closed 2^64 - 1, backward 2^64 - 2", {1, 1, MAX, MAX - 1, 1}, ONE, EQUAL},
+    {"closed 2^64 - 1, backward 0", {1, 1, MAX, 0, 1}, ONE, EQUAL},
+    {"closed 2^63, backward 2^63 - 1", {1, 1, BIT(63), BIT(63) - 1, 1}, ONE, EQUAL},
+    {"closed is no divisor", {1, 1, 9, 0, 2}, ONE, HIGHER},
 
     {"ticks 0 against 0", {1, 1, 1, 0, 0}, {1, 1, 1, 0, 0}, EQUAL},
     {"ticks 0 against 0, other frequencies", {1, 1, 1, 0, 0}, {MAX, 1, 1, 0, 0}, EQUAL},
-    {"ticks 0 against 1", {1, 1, 1, 0, 0}, {1, 1, 1, 0, 1}, LOWER},
+    {"ticks 0 against 1", {1, 1, 1, 0, 0}, ONE, LOWER},
     {"ticks 0 against 1 at 2^64 - 1 Hz", {1, 1, 1, 0, 0}, {MAX, 1, 1, 0, 1}, LOWER},
     {"ticks 0 against 2^64 - 1", {MAX, 1, 1, 0, 0}, {MAX, 1, 1, 0, MAX}, LOWER},
 
@@ -88,21 +89,8 @@ static const struct test tests[] = {
     {"a third and the next above it", {3, 1, 1, 0, 1}, {MAX, 1, 1, 0, MAX / 3 + 1}, LOWER},
     {"2^53 ticks against 2^53 + 1", {1, 1, 1, 0, BIT(53)}, {1, 1, 1, 0, BIT(53) + 1}, LOWER},
     {"2^64 - 2 ticks against 2^64 - 1", {1, 1, 1, 0, MAX - 1}, {1, 1, 1, 0, MAX}, LOWER},
-    {"1 tick at 2^63 Hz against 1 at 1 Hz", {BIT(63), 1, 1, 0, 1}, {1, 1, 1, 0, 1}, LOWER},
+    {"1 tick at 2^63 Hz against 1 at 1 Hz", {BIT(63), 1, 1, 0, 1}, ONE, LOWER},
 };
-
-static unsigned passed, failed;
-
-static void expect(const char *name, const char *how, uint32_t answer, uint32_t expected)
-{
-    if (answer == expected) {
-        passed++;
-        return;
-    }
-    failed++;
-    printf("FAILED: %s%s: answered %lu, expected %lu\n", name, how, (unsigned long)answer,
-           (unsigned long)expected);
-}
 
 static uint32_t compare(struct side a, struct side b)
 {
@@ -121,17 +109,13 @@ static uint32_t mirrored(uint32_t answer)
 
 int main(void)
 {
-    expect("the header's number of refusal 17", "", TOWERCLOAK_NO_UNIT, 17);
-    expect("the header's number of refusal 18", "", TOWERCLOAK_NO_MEASURED_CALL, 18);
-    for (unsigned i = 0; i < sizeof tests / sizeof tests[0]; i++) {
+    static const uint32_t answers[] = {LOWER, EQUAL, HIGHER, 17, 18};
+    expect("the header", "the number of refusal 17", TOWERCLOAK_NO_UNIT == 17);
+    expect("the header", "the number of refusal 18", TOWERCLOAK_NO_MEASURED_CALL == 18);
+    for (size_t i = 0; i < sizeof tests / sizeof tests[0]; i++) {
         const struct test *test = &tests[i];
-        expect(test->name, "", compare(test->a, test->b), test->expected);
-        expect(test->name, ", exchanged", compare(test->b, test->a), mirrored(test->expected));
+        expect_answer(test->name, "as it stands", compare(test->a, test->b), test->expected);
+        expect_answer(test->name, "exchanged", compare(test->b, test->a), mirrored(test->expected));
     }
-    if (failed != 0) {
-        printf("c: %u cases failed, %u passed\n", failed, passed);
-        return 1;
-    }
-    printf("c: %u cases passed\n", passed);
-    return 0;
+    return conclude("comparison", answers, sizeof answers / sizeof answers[0]);
 }

@@ -1,9 +1,9 @@
-/* The scrubber from C: sample B of Paper 01, "Sample logs", with other hidden bytes, logs that are refused,
- * and the edges of what may be lent.
+/* The scrubber from C: sample B of Paper 01, "Sample logs", and other logs, all with dirty hidden bytes; the same logs
+ * with a byte changed, so that they are refused; and the edges of what may be lent.
  */
+#include "checks.h"
 #include "towercloak.h"
 
-#include <stdio.h>
 #include <string.h>
 
 /* Bytes on either side of a log, which must stay as they are. */
@@ -12,90 +12,58 @@ enum { AROUND = 16, GUARD = 0xA7, LONGEST = 165 };
 /* What *place holds before. */
 #define NOWHERE UINT64_C(0xA7A7A7A7A7A7A7A7)
 
-/* Sample B, with bytes other than 0 wherever they are hidden. */
-static const uint8_t dirty_b[128] = {
-    0x01, 0x00, 0x01, 0x00, 0x03, 0x00, 0x00, 0x00, 0x00, 0xCA, 0x9A, 0x3B, 0x00, 0x00, 0x00, 0x00,
-    0x60, 0x00, 0x00, 0x00, 0x00, 0x00, 0x00, 0x00, 0xE1, 0xE2, 0xE3, 0xE4, 0xE5, 0xE6, 0xE7, 0xE8,
-    /* NewBuffer of thread 7, at 32 */
-    0x01, 0x07, 0x00, 0xE1, 0xE2, 0xE3, 0xE4, 0xE5, 0xE6, 0xE7, 0xE8, 0xE9, 0xEA, 0xEB, 0xEC, 0xED,
-    /* WallTimeMarker, at 48 */
-    0x09, 0x00, 0x00, 0x00, 0x00, 0x00, 0x00, 0x00, 0x00, 0x00, 0x00, 0x00, 0x00, 0xE1, 0xE2, 0xE3,
-    /* NewCPUId 0 with 1000, at 64 */
-    0x05, 0x00, 0x00, 0xE8, 0x03, 0x00, 0x00, 0x00, 0x00, 0x00, 0x00, 0xE1, 0xE2, 0xE3, 0xE4, 0xE5,
-    /* Entry at 80, Exit at 88 */
-    0x50, 0x00, 0x00, 0x00, 0x0A, 0x00, 0x00, 0x00, 0x52, 0x00, 0x00, 0x00, 0x1E, 0x00, 0x00, 0x00,
-    /* EndOfBuffer, at 96 */
-    0x03, 0xE1, 0xE2, 0xE3, 0xE4, 0xE5, 0xE6, 0xE7, 0xE8, 0xE9, 0xEA, 0xEB, 0xEC, 0xED, 0xEE, 0xEF,
-    /* the skipped rest, at 112 */
-    0xE1, 0xE2, 0xE3, 0xE4, 0xE5, 0xE6, 0xE7, 0xE8, 0xE9, 0xEA, 0xEB, 0xEC, 0xED, 0xEE, 0xEF, 0xE0,
+/* As many hidden bytes as the paper's table has. In these logs they, and no others, lie from 0xD0 to 0xDF. */
+#define DIRT_3 0xD1, 0xD2, 0xD3
+#define DIRT_5 DIRT_3, 0xD4, 0xD5
+#define DIRT_7 DIRT_5, 0xD6, 0xD7
+#define DIRT_8 DIRT_7, 0xD8
+#define DIRT_13 DIRT_8, 0xD9, 0xDA, 0xDB, 0xDC, 0xDD
+#define DIRT_15 DIRT_13, 0xDE, 0xDF
+
+/* Visible bytes that are all different. */
+#define SHOWN_2 0x21, 0x22
+#define SHOWN_4 SHOWN_2, 0x23, 0x24
+#define SHOWN_7 SHOWN_4, 0x25, 0x26, 0x27
+#define SHOWN_8 SHOWN_7, 0x28
+
+#define ZEROS_8 0, 0, 0, 0, 0, 0, 0, 0
+#define GHZ 0x00, 0xCA, 0x9A, 0x3B, 0, 0, 0, 0
+
+/* Version and type 1, both flags, 1,000,000,000 Hz, and this buffer_size. */
+#define HEADER(size) 1, 0, 1, 0, 3, 0, 0, 0, GHZ, size, 0, 0, 0, 0, 0, 0, 0, DIRT_8
+/* NewBuffer of thread 7, WallTimeMarker at 0, NewCPUId 0 at 1000. */
+#define LEADING 0x01, 7, 0, DIRT_13, 0x09, ZEROS_8, 0, 0, 0, 0, DIRT_3, 0x05, 0, 0, 0xE8, 3, 0, 0, 0, 0, 0, 0, DIRT_5
+#define END_OF_BUFFER 0x03, DIRT_15
+
+static const uint8_t sample_b[128] = {
+    HEADER(96), LEADING,                            /* up to 80 */
+    0x50, 0, 0, 0, 10, 0, 0, 0,                     /* Entry */
+    0x52, 0, 0, 0, 30, 0, 0, 0,                     /* Exit, at 88 */
+    END_OF_BUFFER,                                  /* at 96 */
+    DIRT_15, 0xD0,                                  /* the skipped rest */
 };
 
-static const uint8_t clean_b[128] = {
-    0x01, 0x00, 0x01, 0x00, 0x03, 0x00, 0x00, 0x00, 0x00, 0xCA, 0x9A, 0x3B, 0x00, 0x00, 0x00, 0x00,
-    0x60, 0x00, 0x00, 0x00, 0x00, 0x00, 0x00, 0x00, 0x00, 0x00, 0x00, 0x00, 0x00, 0x00, 0x00, 0x00,
-    0x01, 0x07, 0x00, 0x00, 0x00, 0x00, 0x00, 0x00, 0x00, 0x00, 0x00, 0x00, 0x00, 0x00, 0x00, 0x00,
-    0x09, 0x00, 0x00, 0x00, 0x00, 0x00, 0x00, 0x00, 0x00, 0x00, 0x00, 0x00, 0x00, 0x00, 0x00, 0x00,
-    0x05, 0x00, 0x00, 0xE8, 0x03, 0x00, 0x00, 0x00, 0x00, 0x00, 0x00, 0x00, 0x00, 0x00, 0x00, 0x00,
-    0x50, 0x00, 0x00, 0x00, 0x0A, 0x00, 0x00, 0x00, 0x52, 0x00, 0x00, 0x00, 0x1E, 0x00, 0x00, 0x00,
-    0x03, 0x00, 0x00, 0x00, 0x00, 0x00, 0x00, 0x00, 0x00, 0x00, 0x00, 0x00, 0x00, 0x00, 0x00, 0x00,
-    0x00, 0x00, 0x00, 0x00, 0x00, 0x00, 0x00, 0x00, 0x00, 0x00, 0x00, 0x00, 0x00, 0x00, 0x00, 0x00,
+/* Any flags, frequency and buffer_size. */
+static const uint8_t bare_header[32] = {1, 0, 1, 0, SHOWN_4, SHOWN_8, SHOWN_8, DIRT_8};
+
+static const uint8_t two_buffers[160] = {HEADER(64), LEADING, END_OF_BUFFER, LEADING, END_OF_BUFFER};
+
+/* An event of 3 bytes and a skipped rest of 2. */
+static const uint8_t every_record[165] = {
+    1, 0, 1, 0, SHOWN_4, SHOWN_8, 133, 0, 0, 0, 0, 0, 0, 0, DIRT_8,
+    0x01, SHOWN_2, DIRT_13,                         /* NewBuffer */
+    0x09, SHOWN_8, SHOWN_4, DIRT_3,                 /* WallTimeMarker, at 48 */
+    0x05, SHOWN_2, SHOWN_8, DIRT_5,                 /* NewCPUId, at 64 */
+    0x07, SHOWN_8, DIRT_7,                          /* TSCWrap, at 80 */
+    0xF6, SHOWN_7,                                  /* Entry_Args, at 96 */
+    0x0D, DIRT_8, DIRT_7,                           /* CallArgument, at 104 */
+    0x0B, 3, 0, 0, 0, SHOWN_8, DIRT_3, DIRT_3,      /* CustomEventMarker, at 120, and its event */
+    0x52, SHOWN_7,                                  /* Exit of a function that isn't open, at 139 */
+    END_OF_BUFFER, 0xD1, 0xD2,                      /* at 147, and the skipped rest */
 };
 
-/* A log with every record, an event of 3 bytes and a rest of 2, with bytes other than 0 wherever hidden. */
-static const uint8_t dirty_all[165] = {
-    0x01, 0x00, 0x01, 0x00, 0xFF, 0xFF, 0xFF, 0xFF, 0x21, 0x22, 0x23, 0x24, 0x25, 0x26, 0x27, 0x28,
-    0x85, 0x00, 0x00, 0x00, 0x00, 0x00, 0x00, 0x00, 0xE1, 0xE2, 0xE3, 0xE4, 0xE5, 0xE6, 0xE7, 0xE8,
-    /* NewBuffer, at 32 */
-    0x01, 0x21, 0x22, 0xE1, 0xE2, 0xE3, 0xE4, 0xE5, 0xE6, 0xE7, 0xE8, 0xE9, 0xEA, 0xEB, 0xEC, 0xED,
-    /* WallTimeMarker, at 48 */
-    0x09, 0x21, 0x22, 0x23, 0x24, 0x25, 0x26, 0x27, 0x28, 0x21, 0x22, 0x23, 0x24, 0xE1, 0xE2, 0xE3,
-    /* NewCPUId, at 64 */
-    0x05, 0x21, 0x22, 0x21, 0x22, 0x23, 0x24, 0x25, 0x26, 0x27, 0x28, 0xE1, 0xE2, 0xE3, 0xE4, 0xE5,
-    /* TSCWrap, at 80 */
-    0x07, 0x21, 0x22, 0x23, 0x24, 0x25, 0x26, 0x27, 0x28, 0xE1, 0xE2, 0xE3, 0xE4, 0xE5, 0xE6, 0xE7,
-    /* Entry_Args, at 96 */
-    0xF6, 0xFF, 0xFF, 0xFF, 0xFF, 0xFF, 0xFF, 0xFF,
-    /* CallArgument, at 104 */
-    0x0D, 0xE1, 0xE2, 0xE3, 0xE4, 0xE5, 0xE6, 0xE7, 0xE8, 0xE9, 0xEA, 0xEB, 0xEC, 0xED, 0xEE, 0xEF,
-    /* CustomEventMarker of 3 bytes, at 120, and its event */
-    0x0B, 0x03, 0x00, 0x00, 0x00, 0x21, 0x22, 0x23, 0x24, 0x25, 0x26, 0x27, 0x28, 0xE1, 0xE2, 0xE3,
-    0xE1, 0xE2, 0xE3,
-    /* Exit of a function that isn't open, at 139 */
-    0x52, 0x21, 0x22, 0x23, 0x24, 0x25, 0x26, 0x27,
-    /* EndOfBuffer, at 147, and the skipped rest */
-    0x03, 0xE1, 0xE2, 0xE3, 0xE4, 0xE5, 0xE6, 0xE7, 0xE8, 0xE9, 0xEA, 0xEB, 0xEC, 0xED, 0xEE, 0xEF,
-    0xE1, 0xE2,
-};
-
-static const uint8_t clean_all[165] = {
-    0x01, 0x00, 0x01, 0x00, 0xFF, 0xFF, 0xFF, 0xFF, 0x21, 0x22, 0x23, 0x24, 0x25, 0x26, 0x27, 0x28,
-    0x85, 0x00, 0x00, 0x00, 0x00, 0x00, 0x00, 0x00, 0x00, 0x00, 0x00, 0x00, 0x00, 0x00, 0x00, 0x00,
-    0x01, 0x21, 0x22, 0x00, 0x00, 0x00, 0x00, 0x00, 0x00, 0x00, 0x00, 0x00, 0x00, 0x00, 0x00, 0x00,
-    0x09, 0x21, 0x22, 0x23, 0x24, 0x25, 0x26, 0x27, 0x28, 0x21, 0x22, 0x23, 0x24, 0x00, 0x00, 0x00,
-    0x05, 0x21, 0x22, 0x21, 0x22, 0x23, 0x24, 0x25, 0x26, 0x27, 0x28, 0x00, 0x00, 0x00, 0x00, 0x00,
-    0x07, 0x21, 0x22, 0x23, 0x24, 0x25, 0x26, 0x27, 0x28, 0x00, 0x00, 0x00, 0x00, 0x00, 0x00, 0x00,
-    0xF6, 0xFF, 0xFF, 0xFF, 0xFF, 0xFF, 0xFF, 0xFF,
-    0x0D, 0x00, 0x00, 0x00, 0x00, 0x00, 0x00, 0x00, 0x00, 0x00, 0x00, 0x00, 0x00, 0x00, 0x00, 0x00,
-    0x0B, 0x03, 0x00, 0x00, 0x00, 0x21, 0x22, 0x23, 0x24, 0x25, 0x26, 0x27, 0x28, 0x00, 0x00, 0x00,
-    0x00, 0x00, 0x00,
-    0x52, 0x21, 0x22, 0x23, 0x24, 0x25, 0x26, 0x27,
-    0x03, 0x00, 0x00, 0x00, 0x00, 0x00, 0x00, 0x00, 0x00, 0x00, 0x00, 0x00, 0x00, 0x00, 0x00, 0x00,
-    0x00, 0x00,
-};
-
-/* A header alone, whose buffer_size may be anything. */
-static const uint8_t dirty_header[32] = {
-    0x01, 0x00, 0x01, 0x00, 0x03, 0x00, 0x00, 0x00, 0x00, 0xCA, 0x9A, 0x3B, 0x00, 0x00, 0x00, 0x00,
-    0x21, 0x22, 0x23, 0x24, 0x25, 0x26, 0x27, 0x28, 0xE1, 0xE2, 0xE3, 0xE4, 0xE5, 0xE6, 0xE7, 0xE8,
-};
-
-static const uint8_t clean_header[32] = {
-    0x01, 0x00, 0x01, 0x00, 0x03, 0x00, 0x00, 0x00, 0x00, 0xCA, 0x9A, 0x3B, 0x00, 0x00, 0x00, 0x00,
-    0x21, 0x22, 0x23, 0x24, 0x25, 0x26, 0x27, 0x28, 0x00, 0x00, 0x00, 0x00, 0x00, 0x00, 0x00, 0x00,
-};
-
-/* A change of one byte, after which a log of this length is refused. */
-struct refused {
+/* A log of this length with one byte changed, what it is answered, and where it is refused. */
+struct test {
     const char *name;
     const uint8_t *log;
     size_t length, changed;
@@ -104,95 +72,71 @@ struct refused {
     uint64_t place;
 };
 
-static const struct refused refused[] = {
-    {"1: 31 bytes", dirty_b, 31, 0, 0x01, 1, 0},
-    {"1: one byte", dirty_b, 1, 0, 0x01, 1, 0},
-    {"2: version 2", dirty_b, 128, 0, 0x02, 2, 0},
-    {"3: type 257", dirty_b, 128, 3, 0x01, 3, 0},
-    {"4: buffer_size 95", dirty_b, 128, 16, 0x5F, 4, 0},
-    {"4: a byte less", dirty_b, 127, 16, 0x60, 4, 0},
-    {"5: EndOfBuffer runs past the end", dirty_b, 96 + 15, 16, 0x4F, 5, 96},
-    {"5: no byte left for EndOfBuffer", dirty_b, 96, 16, 0x40, 5, 96},
-    {"5: an event runs past the end", dirty_all, 165, 121, 0x1E, 5, 120},
-    {"6: action 4", dirty_b, 128, 88, 0x58, 6, 88},
-    {"6: kind 7", dirty_b, 128, 96, 0x0F, 6, 96},
-    {"7: Entry where WallTimeMarker should be", dirty_b, 128, 48, 0x00, 7, 48},
-    {"7: CallArgument after Entry", dirty_all, 165, 96, 0xF0, 7, 104},
+static const struct test tests[] = {
+    {"sample B", sample_b, 128, 0, 1, 0, 0},
+    {"sample B with a second Entry", sample_b, 128, 88, 0x50, 0, 0},
+    {"a bare header", bare_header, 32, 0, 1, 0, 0},
+    {"two buffers", two_buffers, 160, 0, 1, 0, 0},
+    {"every record", every_record, 165, 0, 1, 0, 0},
+    {"31 bytes", sample_b, 31, 0, 1, 1, 0},
+    {"one byte", sample_b, 1, 0, 1, 1, 0},
+    {"version 2", sample_b, 128, 0, 2, 2, 0},
+    {"type 257", sample_b, 128, 3, 1, 3, 0},
+    {"buffer_size 95", sample_b, 128, 16, 95, 4, 0},
+    {"a byte less", sample_b, 127, 16, 96, 4, 0},
+    {"EndOfBuffer runs past the end", sample_b, 111, 16, 79, 5, 96},
+    {"no byte left for EndOfBuffer", sample_b, 96, 16, 64, 5, 96},
+    {"an event runs past the end", every_record, 165, 121, 30, 5, 120},
+    {"action 4", sample_b, 128, 88, 0x58, 6, 88},
+    {"kind 7", sample_b, 128, 96, 0x0F, 6, 96},
+    {"Entry where WallTimeMarker should be", sample_b, 128, 48, 0, 7, 48},
+    {"CallArgument after Entry", every_record, 165, 96, 0xF0, 7, 104},
+    {"another thread", two_buffers, 160, 97, 8, 8, 96},
 };
 
-static unsigned passed, failed;
-
-static void expect(const char *name, const char *what, int holds)
-{
-    if (holds) {
-        passed++;
-        return;
-    }
-    failed++;
-    printf("FAILED: %s: %s\n", name, what);
-}
-
 /* Scrubs a copy of the log between guards, and expects this answer, place and these bytes. */
-static void scrub(const char *name, const uint8_t *log, size_t length, uint32_t number, uint64_t place,
-                  const uint8_t *after)
+static void scrub(const struct test *test, const char *what, const uint8_t *log, const uint8_t *after)
 {
     uint8_t lent[AROUND + LONGEST + AROUND], expected[sizeof lent];
-    uint64_t found = NOWHERE;
+    uint64_t place = NOWHERE;
     memset(lent, GUARD, sizeof lent);
-    memcpy(lent + AROUND, log, length);
+    memcpy(lent + AROUND, log, test->length);
     memset(expected, GUARD, sizeof expected);
-    memcpy(expected + AROUND, after, length);
-    expect(name, "the answer", towercloak_scrub(lent + AROUND, length, &found) == number);
-    expect(name, "the place", found == place);
-    expect(name, "the bytes", memcmp(lent, expected, sizeof lent) == 0);
+    memcpy(expected + AROUND, after, test->length);
+    expect_answer(test->name, what, towercloak_scrub(lent + AROUND, test->length, &place), test->number);
+    expect(test->name, "the place", place == test->place);
+    expect(test->name, "the bytes", memcmp(lent, expected, sizeof lent) == 0);
 }
 
-static void scrub_refused(const struct refused *test)
+/* The log, which changes only where it is accepted, and what it then is once more. */
+static void run(const struct test *test)
 {
-    uint8_t log[LONGEST];
+    uint8_t log[LONGEST], after[LONGEST];
     memcpy(log, test->log, test->length);
     log[test->changed] = test->byte;
-    scrub(test->name, log, test->length, test->number, test->place, log);
-}
-
-/* Two buffers of 64 bytes, the second of another thread. */
-static void scrub_other_thread(void)
-{
-    uint8_t log[160];
-    memcpy(log, dirty_b, 80);
-    log[16] = 64;
-    memcpy(log + 80, dirty_b + 96, 16);
-    memcpy(log + 96, log + 32, 64);
-    log[96 + 1] = 8;
-    scrub("8: another thread", log, sizeof log, 8, 96, log);
+    for (size_t i = 0; i < test->length; i++)
+        after[i] = test->number == 0 && (log[i] & 0xF0) == 0xD0 ? 0 : log[i];
+    scrub(test, "the answer", log, after);
+    scrub(test, "the answer once more", after, after);
 }
 
 static void scrub_nothing(void)
 {
     uint8_t byte = GUARD;
     uint64_t place = NOWHERE;
-    expect("null of length 0", "the answer", towercloak_scrub(NULL, 0, &place) == 1);
+    expect_answer("null of length 0", "the answer", towercloak_scrub(NULL, 0, &place), 1);
     expect("null of length 0", "the place", place == 0);
     place = NOWHERE;
-    expect("length 0", "the answer", towercloak_scrub(&byte, 0, &place) == 1);
+    expect_answer("length 0", "the answer", towercloak_scrub(&byte, 0, &place), 1);
     expect("length 0", "the place", place == 0);
-    expect("length 0", "the bytes", byte == GUARD);
+    expect("length 0", "the byte", byte == GUARD);
 }
 
 int main(void)
 {
-    scrub("sample B", dirty_b, sizeof dirty_b, 0, 0, clean_b);
-    scrub("sample B once more", clean_b, sizeof clean_b, 0, 0, clean_b);
-    scrub("every record", dirty_all, sizeof dirty_all, 0, 0, clean_all);
-    scrub("a bare header", dirty_header, sizeof dirty_header, 0, 0, clean_header);
-    for (unsigned i = 0; i < sizeof refused / sizeof refused[0]; i++)
-        scrub_refused(&refused[i]);
-    scrub_other_thread();
+    static const uint32_t answers[] = {0, 1, 2, 3, 4, 5, 6, 7, 8};
+    for (size_t i = 0; i < sizeof tests / sizeof tests[0]; i++)
+        run(&tests[i]);
     scrub_nothing();
-    if (failed != 0) {
-        printf("c, scrubber: %u checks failed, %u passed\n", failed, passed);
-        return 1;
-    }
-    printf("c, scrubber: %u checks passed\n", passed);
-    return 0;
+    return conclude("scrubber", answers, sizeof answers / sizeof answers[0]);
 }
