@@ -1,67 +1,12 @@
 //! The hidden bytes of Paper 01, "Bytes of a log", by the places at which each
 //! sentence puts them, and the scrubber.
 
+use crate::bytes::{argument, buffer, event, header, log, metadata, sample_b};
+use crate::bytes::{DIRT, END, ENTRY, ENTRY_ARGS, EXIT};
 use second::replay::{replay, Answer, TABLE};
 use second::scrub::{hidden, scrub, Kind, Part};
 use std::ops::Range;
 use std::path::Path;
-
-/// What every hidden byte holds before, and no byte that is kept.
-const DIRT: u8 = 0xEE;
-
-fn header(buffer_size: u64) -> Vec<u8> {
-    let mut log = vec![1, 0, 1, 0, 3, 0, 0, 0];
-    log.extend(1_000_000_000u64.to_le_bytes());
-    log.extend(buffer_size.to_le_bytes());
-    log.extend([DIRT; 8]);
-    log
-}
-
-/// A metadata record of this kind, with these data bytes and dirt.
-fn metadata(kind: u8, data: &[u8]) -> Vec<u8> {
-    let mut bytes = vec![DIRT; 16];
-    bytes[0] = kind * 2 + 1;
-    bytes[1..1 + data.len()].copy_from_slice(data);
-    bytes
-}
-
-fn leading(thread: u8) -> Vec<u8> {
-    let cpu = metadata(2, &[0, 0, 0xE8, 3, 0, 0, 0, 0, 0, 0]);
-    [metadata(0, &[thread, 0]), metadata(4, &[0; 12]), cpu].concat()
-}
-
-const END: [u8; 16] = [
-    3, DIRT, DIRT, DIRT, DIRT, DIRT, DIRT, DIRT, DIRT, DIRT, DIRT, DIRT, DIRT, DIRT, DIRT, DIRT,
-];
-const ENTRY: [u8; 8] = [0x50, 0, 0, 0, 0x0A, 0, 0, 0];
-const EXIT: [u8; 8] = [0x52, 0, 0, 0, 0x1E, 0, 0, 0];
-const ENTRY_ARGS: [u8; 8] = [0x56, 0, 0, 0, 0, 0, 0, 0];
-
-fn argument() -> Vec<u8> {
-    metadata(6, &[DIRT; 8])
-}
-
-fn event(length: u32) -> Vec<u8> {
-    let marker = metadata(5, &[&length.to_le_bytes()[..], &[9; 8]].concat());
-    [marker, vec![DIRT; length as usize]].concat()
-}
-
-/// A buffer with the leading records and these bytes, filled up with dirt.
-fn buffer(size: usize, thread: u8, body: &[&[u8]]) -> Vec<u8> {
-    let mut bytes = leading(thread);
-    bytes.extend(body.concat());
-    bytes.resize(size, DIRT);
-    bytes
-}
-
-/// A log of one buffer with this body.
-fn log(size: usize, body: &[&[u8]]) -> Vec<u8> {
-    [header(size as u64), buffer(size, 7, body)].concat()
-}
-
-fn sample_b() -> Vec<u8> {
-    log(96, &[&ENTRY, &EXIT, &END])
-}
 
 fn part(kind: Kind, bytes: Range<usize>) -> Part {
     Part { kind, bytes }

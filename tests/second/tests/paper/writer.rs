@@ -1,6 +1,7 @@
 //! The record writer: Paper 01, "Writer and comparison", and the bytes of its
 //! samples.
 
+use second::generate::any_record;
 use second::random::Random;
 use second::reader::{self, Read};
 use second::record::Record;
@@ -8,39 +9,6 @@ use second::writer::{bytes, check, write, LEAST_BAD_EVENT, LEAST_BAD_ID};
 
 fn function(action: u8, id: u32, delta: u32) -> Record {
     Record::Function { action, id, delta }
-}
-
-/// Any record that the writer takes, given room.
-fn any_record(random: &mut Random) -> Record {
-    match random.below(8) {
-        0 => Record::NewBuffer {
-            thread: random.value() as u16,
-        },
-        1 => Record::EndOfBuffer,
-        2 => Record::NewCpuId {
-            cpu: random.value() as u16,
-            tsc: random.value(),
-        },
-        3 => Record::TscWrap {
-            tsc: random.value(),
-        },
-        4 => Record::WallTime {
-            seconds: random.value(),
-            micros: random.value() as u32,
-        },
-        5 => Record::CustomEvent {
-            size: random.value() as u32,
-            tsc: random.value(),
-        },
-        6 => Record::CallArgument {
-            argument: random.value(),
-        },
-        _ => function(
-            random.below(4) as u8,
-            random.value() as u32 % LEAST_BAD_ID,
-            random.value() as u32,
-        ),
-    }
 }
 
 #[test]

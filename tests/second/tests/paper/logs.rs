@@ -1,12 +1,13 @@
-//! What holds of the generated logs.
+//! What holds of the logs that are made for reading.
 
 use second::generate::{self, Kind};
+use second::inputs;
 use second::walk::{self, Outcome};
 
 #[test]
 fn the_same_seed_gives_the_same_log() {
-    for kind in Kind::ALL {
-        assert!(generate::log(kind, 3) == generate::log(kind, 3));
+    for kind in inputs::Kind::all() {
+        assert!(kind.log(3) == kind.log(3));
     }
 }
 

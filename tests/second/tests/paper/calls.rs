@@ -5,29 +5,9 @@ use second::replay::{replay, Answer, TABLE};
 use second::walk::{self, Outcome};
 
 #[test]
-fn the_same_seed_gives_the_same_log() {
-    for kind in Kind::ALL {
-        assert!(calls::log(kind, 4) == calls::log(kind, 4));
-    }
-}
-
-#[test]
 fn sound_kinds_are_well_formed() {
-    let sound = [
-        Kind::Nested,
-        Kind::Recursive,
-        Kind::Carried,
-        Kind::Events,
-        Kind::Deep,
-        Kind::HighClock,
-        Kind::TickSum,
-        Kind::Backward,
-        Kind::NoEntry,
-        Kind::Wide,
-        Kind::DeepAndWide,
-        Kind::WideNoEntry,
-    ];
-    for kind in sound {
+    let wide = [Kind::Wide, Kind::DeepAndWide, Kind::WideNoEntry];
+    for kind in Kind::SOUND.iter().copied().chain(wide) {
         for seed in 0..200 {
             let outcome = walk::walk(&calls::log(kind, seed)).1;
             assert_eq!(outcome, Outcome::Done, "{kind:?}, seed {seed}");

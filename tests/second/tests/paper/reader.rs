@@ -1,0 +1,62 @@
+//! The record reader: Paper 01, "Bytes of a log".
+
+use crate::bytes::{event_marker, log, sample_b, END};
+use second::reader::{self, Read};
+use second::record::Record;
+
+#[test]
+fn the_reader_takes_any_end_and_place() {
+    let log = sample_b();
+    let five = |end, place| {
+        assert_eq!(
+            reader::read(&log, end, place),
+            Read::Refused { number: 5, place }
+        );
+        assert!(reader::event(&log, end, place).is_empty());
+    };
+    for (end, place) in [(129, 32), (128, 128), (128, 129), (0, 0), (96, 96)] {
+        five(end, place);
+    }
+    for (end, place) in [(u64::MAX, 0), (u64::MAX, u64::MAX), (128, u64::MAX)] {
+        five(end, place);
+    }
+    // The end may lie anywhere up to the log's length.
+    five(47, 32);
+    assert_eq!(
+        reader::read(&log, 48, 32),
+        Read::Found {
+            record: Record::NewBuffer { thread: 7 },
+            next: 48,
+        }
+    );
+}
+
+#[test]
+fn an_event_is_the_logs_own_part() {
+    let log = log(128, &[&event_marker(4), b"tick", &END]);
+    let event = reader::event(&log, 160, 80);
+    assert_eq!(event, b"tick");
+    assert!(std::ptr::eq(event, &log[96..100]));
+    assert_eq!(reader::event(&log, 100, 80), b"tick");
+    assert!(reader::event(&log, 99, 80).is_empty());
+    assert!(reader::event(&log, 160, 64).is_empty());
+    assert!(reader::event(&log, 160, 1000).is_empty());
+}
+
+#[test]
+fn six_shows_in_the_first_byte() {
+    for first in 0..=255u8 {
+        let known = if first % 2 == 0 {
+            first / 2 % 8 <= 3
+        } else {
+            first / 2 <= 6
+        };
+        let answer = reader::read(&[first; 16], 16, 0);
+        let is_six = answer
+            == Read::Refused {
+                number: 6,
+                place: 0,
+            };
+        assert_eq!(is_six, !known);
+    }
+}
