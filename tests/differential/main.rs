@@ -29,10 +29,8 @@ fn compare(log: &[u8], seed: u64, name: &str, counts: &mut Counts) -> Result<(),
         random,
         counts,
     };
-    reading.run().map_err(|text| {
-        let length = log.len();
-        format!("difference: {name}, own seed {seed:#018x}, {length} bytes\n  {text}")
-    })
+    let compared = reading.run();
+    compared.map_err(|text| suite::difference(name, seed, log, &text))
 }
 
 fn run(words: Words) -> Result<String, String> {

@@ -69,3 +69,9 @@ pub fn seen(tables: &[&Table]) -> Result<(), String> {
         false => Err(faults.join("\n")),
     }
 }
+
+/// What to say of a difference in a log.
+pub fn difference(name: &str, seed: u64, log: &[u8], text: &str) -> String {
+    let length = log.len();
+    format!("difference: {name}, own seed {seed:#018x}, {length} bytes\n  {text}")
+}

@@ -44,14 +44,18 @@ fn somewhere(random: &mut Random, length: u64) -> At {
         4 => 16 * random.below(4),
         _ => random.below(size),
     };
-    let place = match stage {
-        0 => end,
-        _ => end.wrapping_sub(size).wrapping_add(offset),
-    };
+    inside(random, size, end, stage, offset)
+}
+
+/// At an offset of the buffer that ends here; between buffers, at the end.
+fn inside(random: &mut Random, size: u64, end: u64, stage: u64, offset: u64) -> At {
     At {
         size,
         thread: random.value(),
-        place,
+        place: match stage {
+            0 => end,
+            _ => end.wrapping_sub(size).wrapping_add(offset),
+        },
         end,
         stage,
     }
@@ -64,17 +68,8 @@ fn past(random: &mut Random, length: u64) -> At {
     let size = (length - 32) / buffers;
     let end = 32 + size * buffers;
     let stage = random.one_of(&[0, 3, 4]);
-    let place = match stage {
-        0 => end,
-        _ => end - size + 72 + random.below(size - 88),
-    };
-    At {
-        size,
-        thread: random.value(),
-        place,
-        end,
-        stage,
-    }
+    let offset = 72 + random.below(size - 88);
+    inside(random, size, end, stage, offset)
 }
 
 /// Changes a number, or two.

@@ -1,5 +1,6 @@
 //! What a run has seen.
 
+use harness::answer;
 use harness::counts::Table;
 use second::inputs::Kind;
 use second::replay::{Answer, TABLE};
@@ -35,19 +36,12 @@ impl Counts {
     }
 
     pub fn answer(&mut self, answer: &Answer, length: usize, whole: bool) {
-        match *answer {
-            Answer::Report {
-                rows,
-                buffers,
-                records,
-                open,
-            } => {
-                self.refusals.count(0, 0);
-                for (row, number) in [rows, buffers, records, open].into_iter().enumerate() {
-                    self.sums.add(row, 0, number);
-                }
+        let [number, counts @ ..] = answer::replayed(answer);
+        self.refusals.count(0, number as usize);
+        if number == 0 {
+            for (row, count) in counts.into_iter().enumerate() {
+                self.sums.add(row, 0, count);
             }
-            Answer::Refused { number, .. } => self.refusals.count(0, usize::from(number)),
         }
         let lent = usize::from(length >= TABLE) + usize::from(length > TABLE);
         self.tables.count(lent, 0);

@@ -35,15 +35,11 @@ impl Run {
         let short = random.once_in(SHORT);
         let (length, whole) = (replaying::length(random, short), random.once_in(4));
         let expected = Expected::of(log, length);
-        self.lent
-            .compare(log, length, whole, &expected)
-            .map_err(|text| {
-                let bytes = log.len();
-                format!(
-                    "difference: {name}, own seed {seed:#018x}, {bytes} bytes, \
-                     table of {length}\n  {text}"
-                )
-            })?;
+        let compared = self.lent.compare(log, length, whole, &expected);
+        compared.map_err(|text| {
+            let text = format!("table of {length}: {text}");
+            suite::difference(name, seed, log, &text)
+        })?;
         self.counts.answer(&expected.answer, length, whole);
         Ok(())
     }

@@ -29,20 +29,23 @@ impl Checks {
     /// All of them; the text tells of a difference.
     pub fn run(&mut self, log: &[u8], random: &mut Random) -> Result<(), String> {
         let hidden = hidden(log);
-        let answer = self.scrubbed(log, &hidden, random)?;
-        if (1..=4).contains(&answer) {
+        let number = self.scrubbed(log, &hidden, random)?;
+        if (1..=4).contains(&number) {
             return Ok(());
         }
-        let expected = Expected::of(log, TABLE);
-        if answer == 0 {
-            self.overwritten(log, &hidden, &expected, random)?;
+        let replayed = &Expected::of(log, TABLE);
+        if number == 0 {
+            self.overwritten(log, &hidden, replayed, random)?;
         }
-        match expected.answer {
-            Answer::Refused { place, .. } => {
-                self.refused(log, &before(&hidden, place), &expected, random)
-            }
-            Answer::Report { .. } => Ok(()),
+        if let Answer::Refused { place, .. } = replayed.answer {
+            // "For a log refused by 5 to 13, overwriting the hidden bytes that
+            // lie before the refused place gives the same replay refusal and
+            // place."
+            let (other, _) = overwrite(random, log, &before(&hidden, place));
+            let answer = self.replayed([log, &other], replayed, random)?;
+            self.counts.refused([log, &other], &answer);
         }
+        Ok(())
     }
 
     /// The proved scrubber and the second one: number, place and all bytes.
@@ -70,8 +73,7 @@ impl Checks {
         replayed: &Expected,
         random: &mut Random,
     ) -> Result<(), String> {
-        let mut other = log.to_vec();
-        let way = overwrite(random, &mut other, parts);
+        let (other, way) = overwrite(random, log, parts);
         if hidden(&other) != parts {
             return Err("second program: other hidden places in the overwritten log".to_string());
         }
@@ -88,27 +90,7 @@ impl Checks {
         expected.compare(log, random)?;
         let named = |text| format!("{text}, in the overwritten log");
         expected.compare(&other, random).map_err(named)?;
-        if log != other {
-            self.counts.pair([log, &other], parts, &answer, way);
-        }
-        Ok(())
-    }
-
-    /// "For a log refused by 5 to 13, overwriting the hidden bytes that lie
-    /// before the refused place gives the same replay refusal and place."
-    fn refused(
-        &mut self,
-        log: &[u8],
-        parts: &[Part],
-        replayed: &Expected,
-        random: &mut Random,
-    ) -> Result<(), String> {
-        let mut other = log.to_vec();
-        overwrite(random, &mut other, parts);
-        let answer = self.replayed([log, &other], replayed, random)?;
-        if answer == replayed.answer && log != other {
-            self.counts.refused(&answer);
-        }
+        self.counts.pair([log, &other], parts, &answer, way);
         Ok(())
     }
 

@@ -20,6 +20,9 @@ const SCRUBBED: usize = 0;
 const PAIRS: usize = 1;
 const REFUSED: usize = 2;
 
+/// The refusal of a table that is too short.
+const NO_TABLE: usize = 14;
+
 /// Of hidden bytes in well-formed logs: all, those that weren't zero, and those
 /// that a pair's other log has another value in.
 const HIDDEN: [&str; 3] = ["bytes", "not zero", "changed"];
@@ -61,8 +64,11 @@ impl Counts {
         }
     }
 
-    /// A pair of well-formed logs that differ.
+    /// A pair of well-formed logs, which counts where they differ.
     pub fn pair(&mut self, logs: [&[u8]; 2], hidden: &[Part], replayed: &Answer, way: Way) {
+        if logs[0] == logs[1] {
+            return;
+        }
         self.answers.count(PAIRS, refusal(replayed));
         self.ways.count(way as usize, 0);
         if logs[0].len() >= HUGE {
@@ -76,9 +82,13 @@ impl Counts {
         }
     }
 
-    /// A pair of refused logs that differ.
-    pub fn refused(&mut self, replayed: &Answer) {
-        self.answers.count(REFUSED, refusal(replayed));
+    /// A pair of refused logs, which counts where they differ and the tables
+    /// were long enough.
+    pub fn refused(&mut self, logs: [&[u8]; 2], replayed: &Answer) {
+        let number = refusal(replayed);
+        if logs[0] != logs[1] && number != NO_TABLE {
+            self.answers.count(REFUSED, number);
+        }
     }
 
     /// Logs, pairs of well-formed ones, and pairs of refused ones.

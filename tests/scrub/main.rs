@@ -30,11 +30,8 @@ const HUGE: [u64; 8] = [0, 1, 2, 3, 4, 5, 6, 8];
 
 /// Checks one log; the text tells of a difference and of its case.
 fn check(checks: &mut Checks, log: &[u8], name: &str, seed: u64) -> Result<(), String> {
-    let random = &mut Random::new(!seed);
-    checks.run(log, random).map_err(|text| {
-        let length = log.len();
-        format!("difference: {name}, own seed {seed:#018x}, {length} bytes\n  {text}")
-    })
+    let checked = checks.run(log, &mut Random::new(!seed));
+    checked.map_err(|text| suite::difference(name, seed, log, &text))
 }
 
 fn run(words: Words) -> Result<String, String> {

@@ -19,13 +19,14 @@ impl Way {
     pub const ALL: [Way; 4] = [Way::All, Way::Some, Way::OneKind, Way::One];
 }
 
-/// Overwrites bytes of these parts, of which there must be one.
-pub fn overwrite(random: &mut Random, log: &mut [u8], parts: &[Part]) -> Way {
+/// The log with bytes of these parts overwritten, of which there must be one.
+pub fn overwrite(random: &mut Random, log: &[u8], parts: &[Part]) -> (Vec<u8>, Way) {
+    let mut other = log.to_vec();
     let way = random.one_of(&[Way::All, Way::All, Way::Some, Way::OneKind, Way::One]);
     let kind = parts[random.index(parts.len())].kind;
     if way == Way::One {
-        another(random, log, parts);
-        return way;
+        another(random, &mut other, parts);
+        return (other, way);
     }
     let like = random.below(5);
     for part in parts {
@@ -35,10 +36,10 @@ pub fn overwrite(random: &mut Random, log: &mut [u8], parts: &[Part]) -> Way {
             _ => true,
         };
         if chosen {
-            fill(random, &mut log[part.bytes.clone()], like);
+            fill(random, &mut other[part.bytes.clone()], like);
         }
     }
-    way
+    (other, way)
 }
 
 /// Any bytes, bytes that look like records, or all the same.
