@@ -11,9 +11,6 @@ test:
 	@tests/run
 
 fuzz:
-	rt staticlib towercloak
-	rt staticlib probe
-	rt staticlib replay_probe
 	@tests/fuzz
 
 host:

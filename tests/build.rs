@@ -1,11 +1,9 @@
-//! Links the proved code. Its static libraries are looked for in the folder
-//! that `STATICLIB_DIR` names, else in the repository's `target/staticlib`.
+//! Links the proved code: the static libraries that the file `libraries` names,
+//! from the folder that `STATICLIB_DIR` names, else from the repository's
+//! `target/staticlib`.
 
 use std::env;
 use std::path::PathBuf;
-
-/// As `rt staticlib NAME` names them.
-const LIBRARIES: [&str; 3] = ["towercloak", "probe", "replay_probe"];
 
 fn main() {
     let folder = match env::var_os("STATICLIB_DIR") {
@@ -16,7 +14,7 @@ fn main() {
         }
     };
     println!("cargo:rustc-link-search=native={}", folder.display());
-    for library in LIBRARIES {
+    for library in include_str!("libraries").split_whitespace() {
         let archive = folder.join(format!("lib{library}.a"));
         println!("cargo:rustc-link-lib=static={library}");
         println!("cargo:rerun-if-changed={}", archive.display());

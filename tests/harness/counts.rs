@@ -1,6 +1,7 @@
 //! What a run has seen, in tables. A run fails where something that can come
 //! never came, and where something came that cannot.
 
+use second::inputs::Kind;
 use std::fmt::{Display, Formatter, Result};
 
 /// Counts in rows and columns.
@@ -28,6 +29,12 @@ impl Table {
         names: impl IntoIterator<Item = impl ToString>,
     ) -> Table {
         Table::grid(heading, &[unit], names)
+    }
+
+    /// Logs by the kinds of `Kind::all()`; the last row is for others.
+    pub fn kinds(unit: &str, others: &str) -> Table {
+        let names = Kind::all().into_iter().map(Kind::name);
+        Table::counting("kind", unit, names.chain([others.to_string()]))
     }
 
     /// Rows that can each hit every column.

@@ -64,10 +64,10 @@ impl Lent {
         whole: bool,
         expected: &Expected,
     ) -> Result<(), String> {
+        let list = answer::replayed(&expected.answer);
         let asked = if whole { &ALL[..] } else { &FIRST };
         for which in asked {
             self.table.copy_from_slice(&self.before);
-            let list = answer::replayed(&expected.answer);
             let lent = &mut self.table[..length];
             answer::same(&list, [*which], |which| proved::replay(log, lent, which))?;
             self.compare_table(&expected.written)?;

@@ -50,9 +50,8 @@ fn logs(program: &str, path: &Path, seed: u64) -> Result<Table, String> {
     let mut records = Table::counting("read by LLVM", "records", written);
     for index in 0..LOGS {
         let random = &mut Random::new(seed.wrapping_add(index));
-        log(program, path, random, &mut records).map_err(|text| {
-            format!("difference: llvm, --seed {seed:#018x}, log {index}: {text}")
-        })?;
+        log(program, path, random, &mut records)
+            .map_err(|text| format!("llvm, --seed {seed:#018x}, log {index}: {text}"))?;
     }
     Ok(records)
 }

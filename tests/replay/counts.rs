@@ -2,7 +2,6 @@
 
 use harness::answer;
 use harness::counts::Table;
-use second::inputs::Kind;
 use second::replay::{Answer, TABLE};
 
 /// What a replay can answer.
@@ -28,7 +27,7 @@ pub struct Counts {
 impl Counts {
     pub fn new() -> Counts {
         Counts {
-            kinds: Table::counting("kind", "logs", Kind::names("samples")),
+            kinds: Table::kinds("logs", "samples"),
             refusals: Table::refusals("refusals", [("replay", &REFUSALS[..])]),
             tables: Table::counting("lent tables", "logs", TABLES),
             sums: Table::counting("of accepted logs", "sum", SUMS),

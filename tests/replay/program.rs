@@ -39,7 +39,7 @@ struct Runs<'a> {
 pub fn run(program: &Path) -> Result<u64, String> {
     let mut runs = Runs {
         program,
-        kinds: Table::counting("kind", "runs", Kind::names("samples and edges")),
+        kinds: Table::kinds("runs", "samples and edges"),
         refusals: Table::refusals("refusals", [("program", &REFUSALS[..])]),
         runs: Table::counting("input", "runs", RUNS),
     };

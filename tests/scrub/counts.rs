@@ -2,7 +2,6 @@
 
 use crate::overwriting::Way;
 use harness::counts::Table;
-use second::inputs::Kind;
 use second::replay::Answer;
 use second::scrub::{self, Part};
 
@@ -44,7 +43,7 @@ impl Counts {
         ways.push("in about 16 MiB".to_string());
         let hidden = scrub::Kind::ALL.map(|kind| format!("{kind:?}"));
         Counts {
-            kinds: Table::counting("kind", "logs", Kind::names("samples")),
+            kinds: Table::kinds("logs", "samples"),
             answers: Table::refusals("refusals", ANSWERS),
             ways: Table::counting("overwritten", "pairs", ways),
             hidden: Table::grid("hidden", &HIDDEN, hidden),

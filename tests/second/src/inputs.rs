@@ -52,12 +52,6 @@ impl Kind {
         }
     }
 
-    /// The names of all kinds, and one more for other logs.
-    pub fn names(others: &str) -> Vec<String> {
-        let kinds = Kind::all().into_iter().map(Kind::name);
-        kinds.chain([others.to_string()]).collect()
-    }
-
     pub fn name(self) -> String {
         match self {
             Kind::Calls(kind) => format!("calls {kind:?}"),
