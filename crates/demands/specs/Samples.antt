@@ -15,16 +15,14 @@ use Rattle.fdr.specs.Hidden.{hiddenIn, hidden}
 use Rattle.record_writer.specs.Writing.{bytesFor}
 use Rattle.fdr.specs.Encoded.{functionBytes, metadataBytes, recordBytes, headerBytes}
 use Rattle.fdr.specs.Sample.{sampleHeader, logBytes, sampleB, sampleWrongExit, sampleAbandoned, sampleBackward, sampleNested, sampleShortest, sampleTooShort, sampleClock, sampleArgument}
-use Rattle.replay.specs.Row.{rowOf, flat, tableOf}
-use Rattle.replay.specs.Row.{zeros as blanks}
+use Rattle.replay.specs.Row.{rowOf, flat, tableOf, zeros as blanks}
 use Rattle.replay.specs.Stack.{nearest, abandonAll}
 use Rattle.replay.specs.Step.{enteredIn, entered, closed, leftTo, left, called, moved, step}
 use Rattle.replay.specs.Replay.{report, refusal, countsOf, replayed, meaning, recordsIn, buffersIn, answer, tableAfter}
 use Rattle.scrub.specs.Scrub.{scrubbed, ending, scrubbing, zeroedFrom, bytesAfter}
 use Rattle.log_writer.specs.Start.{fresh, put, started, outputStarted}
 use Rattle.log_writer.specs.State.{reachable, inBuffer, standing, sound}
-use Rattle.log_writer.specs.Call.{Call, opening, adding, closing, stageAfter, takes, callBytes, stateAfter, callTests, outputCalled}
-use Rattle.log_writer.specs.Call.{called as calledOn}
+use Rattle.log_writer.specs.Call.{Call, opening, adding, closing, stageAfter, takes, callBytes, stateAfter, callTests, outputCalled, called as calledOn}
 use Rattle.log_writer.specs.Session.{outputIn}
 use Rattle.fdr.specs.declared.record.Record.the-variants.{Function}
 use Rattle.compare.specs.Sample.{Comparisons, comparisons}
