@@ -7,6 +7,8 @@ use bench::measure::{clock, mean, passes, Input, Program};
 use bench::process::end;
 use bench::table::{self, SECOND, TOWERCLOAK};
 use bench::{Fallible, MIB, SIZES};
+// Links the proved code.
+use harness as _;
 use second::compare::Side;
 use second::random::Random;
 use std::hint::black_box;

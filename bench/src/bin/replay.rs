@@ -10,6 +10,7 @@ use bench::measure::{clock, mean, passes, Input, Program};
 use bench::process::{self, end, llvm_xray, Words};
 use bench::table::{on_logs, Job, SECOND, TOWERCLOAK};
 use bench::Fallible;
+use harness::proved;
 use second::replay::{Answer, ROW, TABLE};
 use std::env;
 use std::ffi::OsString;
@@ -22,13 +23,6 @@ use std::{ptr, slice};
 
 mod c {
     extern "C" {
-        pub fn probe_replay(
-            log: *const u8,
-            len: usize,
-            table: *mut u64,
-            table_len: usize,
-            which: u64,
-        ) -> u64;
         pub fn mmap(
             near: *const u8,
             len: usize,
@@ -43,15 +37,6 @@ mod c {
     pub const MAP_PRIVATE: i32 = 2;
 }
 
-/// One number of the proved answer: 0, rows, buffers, records and open of a
-/// report.
-fn proved(log: &[u8], table: &mut [u64], which: u64) -> u64 {
-    let (bytes, numbers) = (log.as_ptr(), table.as_mut_ptr());
-    // SAFETY: the pointers and lengths are those of two slices that outlive
-    // the call.
-    unsafe { c::probe_replay(bytes, log.len(), numbers, table.len(), which) }
-}
-
 fn account(log: &Path) -> Words {
     llvm_xray(&["account", "--format=csv", "--sort=funcid"], log)
 }
@@ -64,7 +49,7 @@ fn check(log: &Log) -> Fallible<()> {
         return Err(format!("second: {answer:?}"));
     };
     let mut same = vec![0; TABLE];
-    let numbers = [0, 1, 3].map(|which| proved(&log.bytes, &mut same, which));
+    let numbers = [0, 1, 3].map(|which| proved::replay(&log.bytes, &mut same, which));
     if numbers != [0, rows, records] || same != table {
         return Err(format!("towercloak: {numbers:?}, second: {answer:?}"));
     }
@@ -102,7 +87,7 @@ fn in_memory(log: &Log) -> Input<'_> {
             Ok(mean(passes(log.mib), pass))
         }
     };
-    let by_proved = |log: &[u8], table: &mut [u64]| assert_eq!(proved(log, table, 0), 0);
+    let by_proved = |log: &[u8], table: &mut [u64]| assert_eq!(proved::replay(log, table, 0), 0);
     let by_second = |log: &[u8], table: &mut [u64]| {
         let answer = second::replay::replay(log, table);
         assert!(matches!(answer, Answer::Report { .. }));
@@ -156,7 +141,7 @@ fn mapped(path: &Path) -> io::Result<&'static [u8]> {
 fn file(path: &Path) -> Fallible<()> {
     let log = mapped(path).map_err(|error| named(path, error))?;
     let mut table = vec![0; TABLE];
-    let number = proved(log, &mut table, 0);
+    let number = proved::replay(log, &mut table, 0);
     if number != 0 {
         return Err(format!("refused {number}"));
     }

@@ -7,24 +7,11 @@ use bench::measure::{clock, mean, passes, Input, Program};
 use bench::process::{self, end, llvm_xray, Words};
 use bench::table::{on_logs, Job, SECOND, TOWERCLOAK};
 use bench::Fallible;
+use harness::proved;
 use second::walk;
 use std::fs;
 use std::path::{Path, PathBuf};
 use std::process::ExitCode;
-
-mod c {
-    extern "C" {
-        pub fn towercloak_scrub(log: *mut u8, len: usize, place: *mut u64) -> u32;
-    }
-}
-
-/// The proved answer: the refusal's number, or 0.
-fn proved(log: &mut [u8]) -> u32 {
-    let mut place = 0;
-    // SAFETY: the pointer and the length are those of a slice that outlives
-    // the call, and the place is a number outside it.
-    unsafe { c::towercloak_scrub(log.as_mut_ptr(), log.len(), &mut place) }
-}
 
 /// The program of `host/` on a log, and the file that it writes.
 fn host(log: &Path) -> (Words, PathBuf) {
@@ -43,7 +30,7 @@ fn fdr_dump(log: &Path) -> Words {
 /// `llvm-xray` must find as many records.
 fn check(log: &Log) -> Fallible<()> {
     let (mut one, mut other) = (log.bytes.clone(), log.bytes.clone());
-    let number = proved(&mut one);
+    let (number, _) = proved::scrub(&mut one);
     let answer = second::scrub::scrub(&mut other);
     if number != 0 || answer.is_err() || one != other {
         return Err(format!("towercloak: {number}, second: {answer:?}"));
@@ -91,7 +78,7 @@ fn in_memory(log: &Log) -> Input<'_> {
             Ok(mean(passes(log.mib), pass))
         }
     };
-    let by_proved = |log: &mut [u8]| assert_eq!(proved(log), 0);
+    let by_proved = |log: &mut [u8]| assert_eq!(proved::scrub(log).0, 0);
     let by_second = |log: &mut [u8]| assert!(second::scrub::scrub(log).is_ok());
     Input {
         bytes: log.bytes.len(),
