@@ -10,23 +10,19 @@ use Rattle.fdr.specs.Header.{Opening, passed, failed, openedWithin, long
 use Rattle.fdr.specs.Walk.{Stepping, over, went, stopped, next, startOf}
 use Rattle.fdr.specs.Trace.{Trace, refusedAt, traced, walked, traceFrom, traceWithin, trace, finished, wellFormed}
 use Rattle.fdr.specs.Hidden.{hiddenIn, hidden, visibleIn}
-use Rattle.fdr.specs.declared.record.Record.{Record}
 use Rattle.fdr.specs.declared.walk.Position.{Position}
 use Rattle.fdr.proofs.Cases.{by-lt}
 use Rattle.fdr.proofs.Records.{visible-size}
-use Rattle.fdr.proofs.Tracing.{over-end, Forward, forward}
-use Rattle.fdr.proofs.Hiding.{before-range, in-range, behind-range, shown-of, hidden-later}
+use Rattle.fdr.proofs.Tracing.{over-end, forward}
+use Rattle.fdr.proofs.Hiding.{before-range, in-range, behind-range, shown-of, by-later, hidden-later}
 
 -- What is visible lies behind the place where a trace starts.
 visible-later : (f : ℕ) (s : List ℕ) (p : Position) (i : ℕ) → i < p .place → visibleIn (walked f s p) i ≡ false
-unfolding walked visibleIn
-visible-later zero s p i l = refl
-visible-later (suc f) s p i l = go (next s p) refl (λ r q w. visible-later f s q i (omega (arith, w .by)))
-  where
-    go : (x : Stepping) → next s p ≡ x → ((r : Record) (q : Position) → Forward s p r q → visibleIn (walked f s q) i ≡ false) → visibleIn (traced x (p .place) (λ q. walked f s q)) i ≡ false
-    go over z h = refl
-    go (stopped n at) z h = refl
-    go (went r q) z h = rw (before-range (p .place) (p .place + visible r) i l, h r q (forward s p r q z))
+unfolding visibleIn
+visible-later f s p i l =
+    by-later (λ t. visibleIn t i ≡ false) i refl (λ n at. refl)
+    (λ place r after rest h none. rw (before-range place (place + visible r) i h, none))
+    f s p l
 
 -- One or the other, and not both.
 abbrev Parted : Trace → ℕ → Type 0

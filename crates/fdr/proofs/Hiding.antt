@@ -10,7 +10,7 @@ use lib.ListN.{length}
 use Rattle.fdr.specs.Record.{visible}
 use Rattle.fdr.specs.Header.{Opening, passed, failed, openedWithin, longest}
 use Rattle.fdr.specs.Walk.{Stepping, over, went, stopped, next, startOf}
-use Rattle.fdr.specs.Trace.{Trace, item, refusedAt, traced, walked, traceFrom, traceWithin, trace}
+use Rattle.fdr.specs.Trace.{Trace, item, done, refusedAt, traced, walked, traceFrom, traceWithin, trace}
 use Rattle.fdr.specs.Hidden.{within, hiddenIn}
 use Rattle.fdr.specs.declared.record.Record.{Record}
 use Rattle.fdr.specs.declared.walk.Position.{Position}
@@ -43,16 +43,26 @@ pub shown-behind : (place : ℕ) (r : Record) (after : ℕ) (rest : Trace) (i : 
 unfolding hiddenIn
 shown-behind place r after rest i l none = neither _ _ (behind-range _ after i l) none
 
+-- What holds of each trace that starts behind a byte, by its items.
+pub by-later : (P : Trace → Type 0) (i : ℕ) → P done → ((n at : ℕ) → P (refusedAt n at))
+    → ((place : ℕ) (r : Record) (after : ℕ) (rest : Trace) → i < place → P rest → P (item place r after rest))
+    → (f : ℕ) (s : List ℕ) (p : Position) → i < p .place → P (walked f s p)
+unfolding walked
+by-later P i ends stops more zero s p l = stops 0 (p .place)
+by-later P i ends stops more (suc f) s p l = go (next s p) refl (λ r q w. by-later P i ends stops more f s q (omega (arith, w .by)))
+  where
+    go : (x : Stepping) → next s p ≡ x → ((r : Record) (q : Position) → Forward s p r q → P (walked f s q)) → P (traced x (p .place) (λ q. walked f s q))
+    go over z h = ends
+    go (stopped n at) z h = stops n at
+    go (went r q) z h = more (p .place) r (q .place) (walked f s q) l (h r q (forward s p r q z))
+
 -- What is hidden lies behind the place where a trace starts.
 pub hidden-later : (f : ℕ) (s : List ℕ) (p : Position) (i : ℕ) → i < p .place → hiddenIn (walked f s p) i ≡ false
-unfolding walked hiddenIn
-hidden-later zero s p i l = refl
-hidden-later (suc f) s p i l = go (next s p) refl (λ r q w. hidden-later f s q i (omega (arith, w .by)))
-  where
-    go : (x : Stepping) → next s p ≡ x → ((r : Record) (q : Position) → Forward s p r q → hiddenIn (walked f s q) i ≡ false) → hiddenIn (traced x (p .place) (λ q. walked f s q)) i ≡ false
-    go over z h = refl
-    go (stopped n at) z h = refl
-    go (went r q) z h = shown-of (p .place) r (q .place) (walked f s q) i (omega arith) (h r q (forward s p r q z))
+unfolding hiddenIn
+hidden-later f s p i l =
+    by-later (λ t. hiddenIn t i ≡ false) i refl (λ n at. refl)
+    (λ place r after rest h none. shown-of place r after rest i (omega arith) none)
+    f s p l
 
 pub header-first : (s : List ℕ) (i : ℕ) → i < 32 → hiddenIn (trace s) i ≡ false
 unfolding traceWithin traceFrom hiddenIn
