@@ -4,7 +4,7 @@ ghost use Prim.Native.Nat.{_+_, _*_, _^_, _<_, _≤_};
 ghost use lib.ListN.{length};
 ghost use Rattle.replay.specs.Step.{moved};
 ghost use Rattle.replay.specs.Replay.{verdictOf, report};
-ghost use Rattle.replay.specs.View.{RowsBelow, Bounded, Nearest, Abandoned, Counting, Ready, olderOf, viewed, Entered, Left, Acted, After, Fresh, pushed, popped, stayed, emptied};
+ghost use Rattle.replay.specs.View.{RowsBelow, Bounded, Nearest, Abandoned, Counting, Ready, olderOf, viewed, Entered, Reached, Left, Acted, After, Fresh, pushed, popped, stayed, emptied};
 use crate::Answer;
 use crate::table::ABANDONED;
 use crate::table::ENTERED;
@@ -54,6 +54,18 @@ pub enum Act {
         more: u64,
     },
     Refuse(Refusal),
+}
+
+// The open call that an exit closes, by its row and its clock at entry, with so many of the newest and of
+// the older calls below it.
+enum Found {
+    At {
+        row: u16,
+        since: u64,
+        recent: usize,
+        below: usize,
+    },
+    Nothing,
 }
 
 // The depth of the nearest open call of an id, or 0.
@@ -191,35 +203,47 @@ impl Calls {
         }
     }
 
-    // Tests 10 and 13, and counts an exit where no newest call is of the id: those are all abandoned.
-    fn leave_older<'a>(
+    // The nearest open call of an id, once those above it are counted as abandoned.
+    fn nearest<'a>(
         self,
         table: &mut [u64],
         id: u64,
-        clock: u64,
         row: &'a [u16; 256],
         since: &'a [u64; 256],
-    ) -> Act
-        requires { ⌜ (Ready self (olderOf (now row) (now since)) (now table)) × Nearest (self .row) (self .recent) (now table) id 0 ⌝ }
-        ensures { λ r. ⌜ Left self (olderOf (now (row .entry)) (now (since .entry))) clock id (now (table .entry)) r (now (table .exit)) ⌝ }
+    ) -> Found
+        requires { ⌜ Ready self (olderOf (now row) (now since)) (now table) ⌝ }
+        ensures { λ r. ⌜ Reached self (olderOf (now (row .entry)) (now (since .entry))) id (now (table .entry)) r (now (table .exit)) ⌝ }
     {
         let recent = self.recent;
         let below = self.below;
-        let k = find_call(row, below, table, id);
-        if k == 0 {
-            return Act::Refuse(Refusal::NoOpenCall);
-        }
-        abandon(&self.row, recent, 0, table);
-        abandon(row, below, k, table);
-        let j = k - 1;
-        if close(table, row[j], since[j], clock) {
-            return Act::Pop {
-                recent: 0,
-                below: j,
-                clock,
+        let newest = find_call(&self.row, recent, table, id);
+        if 0 < newest {
+            abandon(&self.row, recent, newest, table);
+            let i = newest - 1;
+            let r = self.row[i];
+            let entry = self.since[i];
+            return Found::At {
+                row: r,
+                since: entry,
+                recent: i,
+                below,
             };
         }
-        Act::Refuse(Refusal::Ticks)
+        let older = find_call(row, below, table, id);
+        if older == 0 {
+            return Found::Nothing;
+        }
+        abandon(&self.row, recent, 0, table);
+        abandon(row, below, older, table);
+        let j = older - 1;
+        let r = row[j];
+        let entry = since[j];
+        Found::At {
+            row: r,
+            since: entry,
+            recent: 0,
+            below: j,
+        }
     }
 
     // Tests 10 and 13, and counts an exit at a clock.
@@ -234,17 +258,19 @@ impl Calls {
         requires { ⌜ Ready self (olderOf (now row) (now since)) (now table) ⌝ }
         ensures { λ r. ⌜ Left self (olderOf (now (row .entry)) (now (since .entry))) clock id (now (table .entry)) r (now (table .exit)) ⌝ }
     {
-        let recent = self.recent;
-        let below = self.below;
-        let k = find_call(&self.row, recent, table, id);
-        if k == 0 {
-            return self.leave_older(table, id, clock, row, since);
-        }
-        abandon(&self.row, recent, k, table);
-        let j = k - 1;
-        if close(table, self.row[j], self.since[j], clock) {
+        let found = self.nearest(table, id, row, since);
+        let Found::At {
+            row: r,
+            since: entry,
+            recent,
+            below,
+        } = found
+        else {
+            return Act::Refuse(Refusal::NoOpenCall);
+        };
+        if close(table, r, entry, clock) {
             return Act::Pop {
-                recent: j,
+                recent,
                 below,
                 clock,
             };

@@ -1,8 +1,8 @@
 -- `replay::calls::Calls::enter` meets its contract: each answer by the law of an entry that applies. Assumes nothing.
 use Rattle.replay.proofs.Entering.{enter-deep, enter-full, enter-known, next-known, enter-new, next-new}
-use Rattle.replay.proofs.Stepping.{counted, ready}
+use Rattle.replay.proofs.Stepping.{ready}
 use Rattle.replay.specs.declared.calls.Calls.{Calls}
-use Rattle.replay.specs.View.{viewed}
+use Rattle.replay.specs.View.{counted, viewed}
 use Rattle.replay.proofs.Rows.{row-is-next}
 use Rattle.replay.specs.Row.{width}
 use lib.ListN.{length-set}
