@@ -137,6 +137,8 @@ int main(int count, char **words) {
         status = scrub(words[2]);
     else if (count == 12 && strcmp(words[1], "compare") == 0)
         status = compare(words + 2);
+    else if (count == 2 && strcmp(words[1], "--help") == 0)
+        status = fputs(usage, stdout) < 0 ? FAILED : DONE;
     else {
         fputs(usage, stderr);
         return FAILED;
