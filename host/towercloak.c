@@ -55,7 +55,7 @@ static int store(const char *result, mode_t mode, const uint8_t *bytes, size_t l
     strcat(beside, ".XXXXXX");
     int file = mkstemp(beside);
     if (file < 0) {
-        int status = failed(beside, strerror(errno));
+        int status = failed(result, strerror(errno));
         free(beside);
         return status;
     }
@@ -88,7 +88,8 @@ static int scrub_bytes(const char *name, mode_t mode, uint8_t *bytes, size_t len
 
 static int scrub(const char *name) {
     struct stat about;
-    int file = open(name, O_RDONLY);
+    /* A pipe must not hold it up: only a regular file is taken. */
+    int file = open(name, O_RDONLY | O_NONBLOCK);
     if (file < 0 || fstat(file, &about) != 0)
         return failed(name, strerror(errno));
     if (!S_ISREG(about.st_mode))

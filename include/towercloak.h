@@ -26,7 +26,8 @@ enum {
 /* Compares the time of side a with that of side b, where a time is ticks over frequency.
  *
  * Of each side: the log's cycle_frequency in Hz, its flag constant_tsc (0, or any other number if it is
- * set), and of the function's row the numbers of closed and of backward calls and the sum of ticks.
+ * set), and of the function's row the numbers of closed and of backward calls and the sum of ticks. The
+ * sums are compared as they are, whatever the numbers of calls that they come from.
  *
  * TOWERCLOAK_NO_UNIT           a frequency or a constant_tsc is 0, on either side
  * TOWERCLOAK_NO_MEASURED_CALL  else, closed is not above backward, on either side
