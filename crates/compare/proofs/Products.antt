@@ -8,8 +8,23 @@ use native.Mathlib.Omega.{arith}
 abbrev pub most : ℕ
 most = 18446744065119617025
 
-pub halves : (x y : ℕ) → x < 2 ^ 32 → y < 2 ^ 32 → x * y ≤ most
+halves : (x y : ℕ) → x < 2 ^ 32 → y < 2 ^ 32 → x * y ≤ most
 halves x y hx hy = mul-le-mul {n₁ = x} {m₁ = y} {n₂ = 4294967295} {m₂ = 4294967295} (omega arith) (omega arith)
+
+-- The four products of the halves of two words.
+pub record Small (a b : ℕ) : Type 0 where
+  pub last : a % 4294967296 * (b % 4294967296) ≤ most
+  pub cross : a / 4294967296 * (b % 4294967296) ≤ most
+  pub other : a % 4294967296 * (b / 4294967296) ≤ most
+  pub first : a / 4294967296 * (b / 4294967296) ≤ most
+
+pub small : (a b : ℕ) → a < 2 ^ 64 → b < 2 ^ 64 → Small a b
+small a b la lb = record {
+  last = halves _ _ (omega arith) (omega arith);
+  cross = halves _ _ (omega arith) (omega arith);
+  other = halves _ _ (omega arith) (omega arith);
+  first = halves _ _ (omega arith) (omega arith);
+}
 
 -- Two numbers of two digits to a base.
 expand : (B a₁ a₀ b₁ b₀ : ℕ) → (a₁ * B + a₀) * (b₁ * B + b₀) ≡ a₁ * b₁ * (B * B) + a₁ * b₀ * B + (a₀ * b₁ * B + a₀ * b₀)
@@ -34,6 +49,14 @@ pub carried : (last cross other first : ℕ) →
     + ((other + (cross + last / 4294967296) % 4294967296) % 4294967296 * 4294967296 + last % 4294967296)
     ≡ first * 18446744073709551616 + cross * 4294967296 + (other * 4294967296 + last)
 carried last cross other first = omega arith
+
+-- So they are the whole's two words.
+module _ (last cross other first whole : ℕ) (e : whole ≡ first * 18446744073709551616 + cross * 4294967296 + (other * 4294967296 + last)) where
+  pub high-of : first + ((cross + last / 4294967296) / 4294967296 + (other + (cross + last / 4294967296) % 4294967296) / 4294967296) ≡ whole / 2 ^ 64
+  high-of = omega (arith, carried last cross other first)
+
+  pub low-of : (other + (cross + last / 4294967296) % 4294967296) % 4294967296 * 4294967296 + last % 4294967296 ≡ whole % 2 ^ 64
+  low-of = omega (arith, carried last cross other first)
 
 -- Two carries fit a word.
 pub carries : (left right : ℕ) → left < 2 ^ 64 → right < 2 ^ 64 → left / 4294967296 + right / 4294967296 < 2 ^ 64

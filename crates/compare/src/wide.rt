@@ -1,6 +1,6 @@
 // Products of two words, where no type is wide enough.
 ghost use mathlib.Core.Path.{_≡_};
-ghost use Prim.Native.Nat.{_*_};
+ghost use Prim.Native.Nat.{_*_, _/_, _%_, _^_};
 ghost use Rattle.compare.specs.Wide.{valueOf, rankOf};
 
 const HALF: u64 = 4294967296;
@@ -11,10 +11,11 @@ pub struct Wide {
     low: u64,
 }
 
-// The whole product. Each number is cut into halves of 32 bits, so that each of the four products of
-// two halves fits a word; they are added column by column, as by hand.
-pub fn product(a: u64, b: u64) -> Wide
-    ensures { λ r. ⌜ valueOf r ≡ a * b ⌝ }
+// The high word of a product. Each number is cut into halves of 32 bits, so that each of the four products of
+// two halves fits a word; they are added column by column, as by hand. The compiler knows this shape, and that
+// of the low word, and makes one multiplication of each; it doesn't know both in one function.
+fn high_word(a: u64, b: u64) -> u64
+    ensures { λ r. ⌜ r ≡ a * b / 2 ^ 64 ⌝ }
 {
     let a0 = a % HALF;
     let a1 = a / HALF;
@@ -28,7 +29,31 @@ pub fn product(a: u64, b: u64) -> Wide
     let right = other + left % HALF;
     let carry = left / HALF + right / HALF;
     let high = first + carry;
+    high
+}
+
+fn low_word(a: u64, b: u64) -> u64
+    ensures { λ r. ⌜ r ≡ a * b % 2 ^ 64 ⌝ }
+{
+    let a0 = a % HALF;
+    let a1 = a / HALF;
+    let b0 = b % HALF;
+    let b1 = b / HALF;
+    let last = a0 * b0;
+    let cross = a1 * b0;
+    let other = a0 * b1;
+    let left = cross + last / HALF;
+    let right = other + left % HALF;
     let low = right % HALF * HALF + last % HALF;
+    low
+}
+
+// The whole product.
+pub fn product(a: u64, b: u64) -> Wide
+    ensures { λ r. ⌜ valueOf r ≡ a * b ⌝ }
+{
+    let high = high_word(a, b);
+    let low = low_word(a, b);
     Wide { high, low }
 }
 
