@@ -12,7 +12,7 @@ use Rattle.fdr.specs.Trace.{wellFormed, trace}
 use Rattle.fdr.specs.Hidden.{hidden, Overwritten}
 use Rattle.fdr.proofs.Cases.{by-lt}
 use Rattle.fdr.proofs.Overwriting.{same-form, same-hidden}
-use Rattle.replay.specs.Row.{written}
+use Rattle.replay.specs.Row.{cells}
 use Rattle.replay.specs.Replay.{Verdict, refusal, answer}
 use Rattle.scrub.specs.Scrub.{Scrubbing, zeroed, bytesAfter}
 use Rattle.scrub.proofs.Zeroing.{kept, length-zeroed, getD-zeroed, zeroed-same}
@@ -54,13 +54,13 @@ less place s t o = record { long = o .long; kept = λ i h. o .kept i (rw h) }
 pub sameRefusal : SameRefusal
 unfolding answer
 sameRefusal s t a b n place lo hi e o lb =
-    sym (same-answer s t (less place s t o) a b (enough ∙ sym (le-ltb (length b) written lb))) ∙ e
+    sym (same-answer s t (less place s t o) a b (enough ∙ sym (le-ltb (length b) cells lb))) ∙ e
   where
-    enough : ltb (length a) written ≡ false
+    enough : ltb (length a) cells ≡ false
     enough =
-        by-lt (length a) written
-        (λ l. let short : answer s a ≡ refusal 14 0 = rw (lt-ltb (length a) written l, answer) in let f : n ≡ 14 = cc in absurd (omega arith))
-        (λ l. le-ltb (length a) written l)
+        by-lt (length a) cells
+        (λ l. let short : answer s a ≡ refusal 14 0 = rw (lt-ltb (length a) cells l, answer) in let f : n ≡ 14 = cc in absurd (omega arith))
+        (λ l. le-ltb (length a) cells l)
 
 -- Demand 3 of what the functions answer and leave.
 pub ran-alike : (s t a b : List ℕ) (v w : Verdict) (u n : List ℕ) (c d : Scrubbing) (x y : List ℕ) → Ran s a v u c x → Ran t b w n d y → wellFormed s ≡ true → Overwritten s t → RanAlike s t a b v w u n c d x y

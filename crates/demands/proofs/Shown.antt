@@ -13,7 +13,8 @@ use Rattle.fdr.specs.Hidden.{shown, shownIn, Overwritten}
 use Rattle.fdr.specs.declared.record.Record.{Record}
 use Rattle.fdr.specs.declared.record.Record.the-variants.{Function, NewBuffer, EndOfBuffer, NewCpuId, TscWrap, WallTime, CustomEvent, CallArgument}
 use Rattle.fdr.proofs.Overwriting.{overwritten}
-use Rattle.replay.specs.Row.{Row, written, flat, zeros, tableOf}
+use Rattle.fdr.specs.Number.{zeros}
+use Rattle.replay.specs.Row.{Row, cells, flat, tableOf}
 use Rattle.replay.specs.Step.{State, Outcome, went, stopped, start, step}
 use Rattle.replay.specs.Replay.{Result, refused, replayed, meaning, recordsIn, buffersOf, buffersIn, Verdict, refusal, told, answer, rowsOf, tableAfter}
 
@@ -68,13 +69,13 @@ first-of n f x =
     let long : n ≤ length (f ++ replicate (n - length f) 0) = simp (length-append, length-replicate) (omega arith) in
     rw (← append-assoc f, take-append-le n (f ++ replicate (n - length f) 0) x)
 
-first-numbers : (rows : List Row) (a b : List ℕ) → take written (tableOf rows a) ≡ take written (tableOf rows b)
+first-numbers : (rows : List Row) (a b : List ℕ) → take cells (tableOf rows a) ≡ take cells (tableOf rows b)
 unfolding tableOf
-first-numbers rows a b = first-of written (flat rows) (drop written a) ∙ sym (first-of written (flat rows) (drop written b))
+first-numbers rows a b = first-of cells (flat rows) (drop cells a) ∙ sym (first-of cells (flat rows) (drop cells b))
 
-long-table : (s a : List ℕ) → written ≤ length a → tableAfter s a ≡ tableOf (rowsOf (meaning s)) a
+long-table : (s a : List ℕ) → cells ≤ length a → tableAfter s a ≡ tableOf (rowsOf (meaning s)) a
 unfolding tableAfter
-long-table s a l = rw (le-ltb (length a) written l, tableAfter)
+long-table s a l = rw (le-ltb (length a) cells l, tableAfter)
 
 -- A log, well-formed or not, and an overwriting of its hidden bytes.
 module _ (s t : List ℕ) (o : Overwritten s t) where
@@ -92,11 +93,11 @@ module _ (s t : List ℕ) (o : Overwritten s t) where
       go (refused n place) = refl
       go (Result.accepted u) = rw (same-by buffersIn buffers-in-shown, same-by recordsIn records-in-shown)
 
-  pub same-answer : (a b : List ℕ) → ltb (length a) written ≡ ltb (length b) written → answer s a ≡ answer t b
+  pub same-answer : (a b : List ℕ) → ltb (length a) cells ≡ ltb (length b) cells → answer s a ≡ answer t b
   unfolding answer
   same-answer a b e =
-      ap (λ (v : Verdict). elim (ltb (length a) written) [ true ↦ refusal 14 0 | false ↦ v ]) same-told
+      ap (λ (v : Verdict). elim (ltb (length a) cells) [ true ↦ refusal 14 0 | false ↦ v ]) same-told
       ∙ ap (λ (x : Bool). elim x [ true ↦ refusal 14 0 | false ↦ told (meaning t) (trace t) ]) e
 
-  pub same-table : (a b : List ℕ) → written ≤ length a → written ≤ length b → take written (tableAfter s a) ≡ take written (tableAfter t b)
+  pub same-table : (a b : List ℕ) → cells ≤ length a → cells ≤ length b → take cells (tableAfter s a) ≡ take cells (tableAfter t b)
   same-table a b la lb = rw (long-table s a la, long-table t b lb, same-meaning) (first-numbers (rowsOf (meaning t)) a b)

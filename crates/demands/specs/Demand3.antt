@@ -10,7 +10,7 @@ use lib.ListN.{length, take}
 use Rattle.fdr.specs.Number.{byteAt}
 use Rattle.fdr.specs.Trace.{wellFormed}
 use Rattle.fdr.specs.Hidden.{hidden, Overwritten}
-use Rattle.replay.specs.Row.{written}
+use Rattle.replay.specs.Row.{cells}
 use Rattle.replay.specs.Replay.{Verdict, refusal, answer, tableAfter}
 use Rattle.scrub.specs.Scrub.{Scrubbing, scrubbed, scrubbing, bytesAfter}
 
@@ -21,9 +21,9 @@ pub record Alike (s t : List ℕ) : Type 0 where
   pub places : (i : ℕ) → hidden s i ≡ hidden t i
   -- "Where 14 applies to both replays or to neither, they give the same counts and the same refusal and place, or both
   -- no refusal"
-  pub answers : (a b : List ℕ) → ltb (length a) written ≡ ltb (length b) written → answer s a ≡ answer t b
+  pub answers : (a b : List ℕ) → ltb (length a) cells ≡ ltb (length b) cells → answer s a ≡ answer t b
   -- "where to neither, the written parts of their tables then hold the same numbers, whatever the tables held before"
-  pub tables : (a b : List ℕ) → written ≤ length a → written ≤ length b → take written (tableAfter s a) ≡ take written (tableAfter t b)
+  pub tables : (a b : List ℕ) → cells ≤ length a → cells ≤ length b → take cells (tableAfter s a) ≡ take cells (tableAfter t b)
   -- "The scrubber accepts both logs, and the scrubbed copy is what the log holds after it."
   pub accepted : (scrubbing s ≡ scrubbed) × (scrubbing t ≡ scrubbed)
   -- Demand 3: "the scrubbed copies are equal, zero in every hidden byte and the old byte elsewhere"
@@ -44,7 +44,7 @@ pub record OverwrittenBefore (place : ℕ) (s t : List ℕ) : Type 0 where
 -- "For a log refused by 5 to 13, overwriting the hidden bytes that lie before the refused place gives the same replay
 -- refusal and place."
 abbrev pub SameRefusal : Type 0
-SameRefusal = (s t a b : List ℕ) (n place : ℕ) → 5 ≤ n → n ≤ 13 → answer s a ≡ refusal n place → OverwrittenBefore place s t → written ≤ length b → answer t b ≡ refusal n place
+SameRefusal = (s t a b : List ℕ) (n place : ℕ) → 5 ≤ n → n ≤ 13 → answer s a ≡ refusal n place → OverwrittenBefore place s t → cells ≤ length b → answer t b ≡ refusal n place
 
 -- What `replay` and `scrub` answer and leave of one log, by their contracts: the verdict, the table, the scrubber's
 -- answer and the bytes.
@@ -58,8 +58,8 @@ pub record Ran (s table : List ℕ) (v : Verdict) (u : List ℕ) (c : Scrubbing)
 pub record RanAlike (s t a b : List ℕ) (v w : Verdict) (u n : List ℕ) (c d : Scrubbing) (x y : List ℕ) : Type 0 where
   pub formed : wellFormed t ≡ true
   pub places : (i : ℕ) → hidden s i ≡ hidden t i
-  pub answers : ltb (length a) written ≡ ltb (length b) written → v ≡ w
-  pub tables : written ≤ length a → written ≤ length b → take written u ≡ take written n
+  pub answers : ltb (length a) cells ≡ ltb (length b) cells → v ≡ w
+  pub tables : cells ≤ length a → cells ≤ length b → take cells u ≡ take cells n
   pub accepted : (c ≡ scrubbed) × (d ≡ scrubbed)
   pub copies : x ≡ y
   pub long : length x ≡ length s

@@ -15,9 +15,9 @@ use Rattle.fdr.specs.Hidden.{hiddenIn, hidden}
 use Rattle.record_writer.specs.Writing.{bytesFor}
 use Rattle.fdr.specs.Encoded.{functionBytes, metadataBytes, recordBytes, headerBytes}
 use Rattle.fdr.specs.Sample.{sampleHeader, logBytes, sampleB, sampleWrongExit, sampleAbandoned, sampleBackward, sampleNested, sampleShortest, sampleTooShort, sampleClock, sampleArgument}
-use Rattle.replay.specs.Row.{rowOf, flat, tableOf, zeros as blanks}
+use Rattle.replay.specs.Row.{rowOf, flat, tableOf}
 use Rattle.replay.specs.Stack.{nearest, abandonAll}
-use Rattle.replay.specs.Step.{enteredIn, entered, closed, leftTo, left, called, moved, step}
+use Rattle.replay.specs.Step.{entryIn, entry, measured, exitOf, exitTo, exit, byAction, moved, step}
 use Rattle.replay.specs.Replay.{report, refusal, countsOf, replayed, meaning, recordsIn, buffersIn, answer, tableAfter}
 use Rattle.scrub.specs.Scrub.{scrubbed, ending, scrubbing, zeroedFrom, bytesAfter}
 use Rattle.log_writer.specs.Start.{fresh, put, started, outputStarted}
@@ -71,7 +71,7 @@ pub record StarredSamples : Type 0 where
   pub compared : Comparisons
 
 pub starredSamples : StarredSamples
-unfolding lent zeros bytesOf functionBytes metadataBytes recordBytes headerBytes sampleHeader logBytes sampleB sampleWrongExit sampleAbandoned sampleBackward sampleNested sampleShortest sampleTooShort sampleClock sampleArgument number functionAt metadataAt decoded headerOf headerTests openedWithin sizeTest recordAt stepIn next walked traceFrom traceWithin rowOf flat blanks tableOf nearest abandonAll enteredIn entered closed leftTo left called moved step replayed meaning recordsIn buffersIn answer tableAfter
+unfolding lent zeros bytesOf functionBytes metadataBytes recordBytes headerBytes sampleHeader logBytes sampleB sampleWrongExit sampleAbandoned sampleBackward sampleNested sampleShortest sampleTooShort sampleClock sampleArgument number functionAt metadataAt decoded headerOf headerTests openedWithin sizeTest recordAt stepIn next walked traceFrom traceWithin rowOf flat tableOf nearest abandonAll entryIn entry measured exitOf exitTo exit byAction moved step replayed meaning recordsIn buffersIn answer tableAfter
 starredSamples = record {
   bare = record { counts = refl; table = refl };
   short = record { number = refl; counts = refl; table = refl };

@@ -5,6 +5,7 @@ pub mod Records
 pub mod Decoding
 pub mod Opening
 pub mod Walking
+pub mod Calling
 pub mod Tracing
 pub mod Agreement
 pub mod Visible

@@ -13,3 +13,4 @@ pub mod Hidden
 pub mod Encoded
 pub mod Sample
 pub mod FirstByte
+pub mod Ahead

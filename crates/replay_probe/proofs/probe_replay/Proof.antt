@@ -26,14 +26,14 @@ same-length : tie.Need-same-length
 same-length c = search needs
 
 returns : tie.Need-returns
-returns c = (ap (λ (l : List ℕ). getD l (c .before .before .before .before .before .before .before .before .args .which) 0) (c .before .numbers-of .ensures ∙ ap verdictNumbers (c .before .before .before .before .replay .ensures .0)), c .before .before .before .before .replay .ensures .1)
+returns c = (ap (λ (l : List ℕ). getD l (c .before .before .before .before .before .before .before .before .args .which) 0) (c .before .numbers-of .ensures ∙ ap verdictNumbers (c .before .before .before .before .replay .ensures .0)), c .before .before .before .before .replay .ensures .1 .0)
 
 same-length-2 : tie.Need-same-length-2
 same-length-2 c = search needs
 
 returns-2 : tie.Need-returns-2
 returns-2 c = let v = answer (c .before .before .before .before .before .before .before .before .args .log .now) (c .before .before .before .before .before .before .before .before .args .table .now) in
-    (past v (c .before .before .before .before .before .before .before .before .args .which) (c .if1 .left), c .before .before .before .before .replay .ensures .1)
+    (past v (c .before .before .before .before .before .before .before .before .args .which) (c .if1 .left), c .before .before .before .before .replay .ensures .1 .0)
 
 pub probe-replay-spec : {M : Type 1} → statement M
 probe-replay-spec =

@@ -1,5 +1,6 @@
 -- `replay::table::clear` meets its contract: the numbers passed are zero, and the others as they were. Assumes nothing.
-use Rattle.replay.specs.Row.{written, flat, zeros, tableOf}
+use Rattle.replay.specs.Row.{cells, flat, tableOf}
+use Rattle.fdr.specs.Number.{zeros}
 use Rattle.replay.proofs.Rows.{fill-length}
 use native.Mathlib.Omega.{arith}
 use mathlib.Core.Path.{_≡_, refl, ap, _∙_}
@@ -11,10 +12,10 @@ use Rattle.replay.proofs.table.clear.Statement.{statement}
 use Rattle.replay.proofs.table.clear.Tie as tie
 
 abbrev Inv-loop : tie.InvT-loop
-Inv-loop table₀ i₀ table i = (i ≤ written) × (table ≡ replicate i 0 ++ drop i table₀)
+Inv-loop table₀ i₀ table i = (i ≤ cells) × (table ≡ replicate i 0 ++ drop i table₀)
 
 abbrev μ-loop : tie.MeasureT-loop
-μ-loop table₀ i₀ table i = written - i
+μ-loop table₀ i₀ table i = cells - i
 
 loop-holds : tie.Need-loop-holds Inv-loop μ-loop
 loop-holds c = (omega arith, refl)
@@ -40,7 +41,7 @@ same-length c = ap length (c .before .loop .inv .1) ∙ fill-length (c .before .
 
 returns : tie.Need-returns Inv-loop μ-loop
 unfolding tableOf flat zeros
-returns c = let e : c .before .loop .i ≡ written = omega arith in
+returns c = let e : c .before .loop .i ≡ cells = omega arith in
     c .before .loop .inv .1 ∙ ap (λ (n : ℕ). replicate n 0 ++ drop n (c .before .before .args .table .now)) e
 
 pub clear-spec : {M : Type 1} → statement M

@@ -1,116 +1,100 @@
 -- `replay::table::close` meets its contract: each answer by the law of a closed call that applies. Assumes nothing.
-use Rattle.replay.proofs.Leaving.{length-shut, counts-shut, closed-backward, closed-over, closed-measured}
-use Rattle.replay.specs.Row.{width}
-use lib.ListN.{length, getD, set}
+use mathlib.Core.Path.{_≡_, sym, ap, _∙_, subst}
+use mathlib.Core.Bool.{true, false}
 use mathlib.Core.List.{List}
-use Prim.Native.Nat.{ℕ, _+_, _-_, _*_, _^_, _≤_, _<_}
 use native.Mathlib.Omega.{arith}
-use mathlib.Core.Path.{sym, ap, _∙_, subst}
+use Prim.Native.Nat.{ℕ, _+_, _-_, _*_, _<_, _≤_, _^_}
+use lib.ListN.{length, getD, set}
+use lib.Seq.{getD-set-same, getD-set-other}
+use Rattle.replay.specs.Row.{width, closed, backward, ticks}
+use Rattle.replay.specs.View.{Shut}
+use Rattle.replay.proofs.Leaving.{once, length-once, twice, shut-backward, shut-measured, shut-over}
 use borrow.Author.Needs.{needs}
 use Rattle.replay.proofs.table.close.Statement.{statement}
 use Rattle.replay.proofs.table.close.Tie as tie
 
-mul-at : tie.Need-mul-at
-mul-at c = search needs
+add-requires : tie.Need-add-requires
+add-requires c κs = search needs
 
-add-bump : tie.Need-add-bump
-add-bump c = search needs
-
-bump-requires : tie.Need-bump-requires
-bump-requires c κs = let a = c .before .before in
-    let r : ℕ = a .args .row in
-    (omega (arith, a .pre .0, a .pre .1), omega (arith, a .pre .2 (r * width + 2) (omega (arith, a .pre .0)) (omega arith) (omega arith)))
-
-add-bump-2 : tie.Need-add-bump-2
-add-bump-2 c = search needs
-
-bump-requires-2 : tie.Need-bump-requires-2
-bump-requires-2 c κs = let a = c .before .before .before .before .before .before .before in
-    let r : ℕ = a .args .row in
-    let t : List ℕ = a .args .table .now in
-    let e₂ = c .before .before .before .before .bump .ensures in (
-      omega (arith, a .pre .0, a .pre .1, ap length e₂ ∙ length-shut r (a .args .since) (a .args .clock) t),
-      subst (λ (y : List ℕ). getD y (r * width + 3) 0 + 1 < 2 ^ 64) (sym e₂)
-          (omega (arith, counts-shut r (a .args .since) (a .args .clock) t (2 ^ 41) (a .pre .0) (a .pre .1) (a .pre .2) (r * width + 3) (omega (arith, a .pre .0)) (omega arith) (omega arith))),
+add-requires-2 : tie.Need-add-requires-2
+add-requires-2 c κs =
+    let s = c .before .before .before .before .before .before .before in
+    let i : ℕ = s .args .row * width + backward in
+    let e = c .before .before .before .before .add .ensures in (
+      omega (arith, s .pre .few, s .pre .long, ap length e ∙ length-once (s .args .row) (s .args .since) (s .args .clock) (s .args .table .now)),
+      omega (arith, s .pre .back, s .pre .room, ap (λ (x : List ℕ). getD x i 0) e, getD-set-other (s .args .table .now) (s .args .row * width + closed) i (getD (s .args .table .now) (s .args .row * width + closed) 0 + 1) 0 (omega arith)),
     )
 
 same-length : tie.Need-same-length
 same-length c = search needs
 
 returns : tie.Need-returns
-returns c = let a = c .before .before .before .before .before .before .before .before .before .before in
-    let r : ℕ = a .args .row in
-    let e₂ = c .before .before .before .before .before .before .before .bump .ensures in
-    closed-backward r (a .args .since) (a .args .clock) (a .args .table .now) (a .pre .0) (a .pre .1) _ (c .before .before .before .before .if1 .taken) (c .before .before .bump2 .ensures ∙ ap (λ (y : List ℕ). set y (r * width + 3) (getD y (r * width + 3) 0 + 1)) e₂)
+returns c =
+    let a = c .before .before .before .before .before .before .before .before .before .before .args in
+    let e = c .before .before .add2 .ensures ∙ ap (λ (x : List ℕ). set x (a .row * width + backward) (getD x (a .row * width + backward) 0 + 1)) (c .before .before .before .before .before .before .before .add .ensures) in
+    λ n l long. subst (λ (x : List ℕ). Shut (a .row) (a .since) (a .clock) n (a .table .now) true x) (sym e)
+    (shut-backward (a .row) (a .since) (a .clock) (a .table .now) n l long (c .before .before .before .before .if1 .taken) (omega (arith, c .slice-known3 .given (a .row * width + ticks), ap (λ (x : List ℕ). getD x (a .row * width + ticks) 0) e)))
 
-add-ticks : tie.Need-add-ticks
-add-ticks c = search needs
+mul-if2 : tie.Need-mul-if2
+mul-if2 c = search needs
 
-mul-ticks : tie.Need-mul-ticks
-mul-ticks c = search needs
+add-if2 : tie.Need-add-if2
+add-if2 c = search needs
 
-slice-read-ticks : tie.Need-slice-read-ticks
-slice-read-ticks c = search needs
+mul-if2-2 : tie.Need-mul-if2-2
+mul-if2-2 c = search needs
+
+slice-read-if2 : tie.Need-slice-read-if2
+slice-read-if2 c = search needs
 
 sub-if2 : tie.Need-sub-if2
-sub-if2 c = let r : ℕ = c .before .before .before .before .before .before .before .args .row in omega (arith, c .slice-known4 .given (r * width + 5))
+sub-if2 c = omega (arith, c .slice-known4 .given (c .before .before .before .before .before .before .before .args .row * width + ticks))
 
 same-length-2 : tie.Need-same-length-2
 same-length-2 c = search needs
 
 returns-2 : tie.Need-returns-2
-returns-2 c = let a = c .before .before .before .before .before .before .before .before in
-    let r : ℕ = a .args .row in
-    let e₂ = c .before .before .before .before .before .bump .ensures in
-    let u₂ : List ℕ = c .before .before .before .before .before .bump .last .0 in
-    let more : ℕ = a .args .clock - a .args .since in
-    let over : 2 ^ 64 ≤ getD u₂ (r * width + 5) 0 + more = omega (arith, c .if2 .taken, c .before .slice-known4 .given (r * width + 5)) in
-    closed-over r (a .args .since) (a .args .clock) (a .args .table .now) (a .pre .0) (a .pre .1) _ (c .before .before .if1 .left) (subst (λ (y : List ℕ). 2 ^ 64 ≤ getD y (r * width + 5) 0 + more) e₂ over) e₂
+returns-2 c =
+    let a = c .before .before .before .before .before .before .before .before .args in
+    let e = c .before .before .before .before .before .add .ensures in
+    λ n l long. subst (λ (x : List ℕ). Shut (a .row) (a .since) (a .clock) n (a .table .now) false x) (sym e)
+    (shut-over (a .row) (a .since) (a .clock) (a .table .now) n l long (c .before .before .if1 .left)
+    (omega (arith, c .if2 .taken, c .before .slice-known4 .given (a .row * width + ticks), ap (λ (x : List ℕ). getD x (a .row * width + ticks) 0) e)))
 
-add-table : tie.Need-add-table
-add-table c = let r : ℕ = c .before .before .before .before .before .before .before .before .args .row in omega (arith, c .if2 .left, c .before .slice-known4 .given (r * width + 5))
-
-add-table-2 : tie.Need-add-table-2
-add-table-2 c = search needs
-
-mul-table : tie.Need-mul-table
-mul-table c = search needs
-
-slice-write-table : tie.Need-slice-write-table
-slice-write-table c = search needs
+add-requires-3 : tie.Need-add-requires-3
+add-requires-3 c κs =
+    let s = c .before .before .before .before .before .before .before .before .before in (
+      omega (arith, s .pre .few, s .pre .long, ap length (c .before .before .before .before .before .before .add .ensures) ∙ length-once (s .args .row) (s .args .since) (s .args .clock) (s .args .table .now)),
+      omega (arith, c .before .if2 .left, c .before .before .slice-known4 .given (s .args .row * width + ticks)),
+    )
 
 same-length-3 : tie.Need-same-length-3
 same-length-3 c = search needs
 
 returns-3 : tie.Need-returns-3
-returns-3 c = let a = c .before .before .before .before .before .before .before .before in
-    let r : ℕ = a .args .row in
-    let e₂ = c .before .before .before .before .before .bump .ensures in
-    let u₂ : List ℕ = c .before .before .before .before .before .bump .last .0 in
-    let more : ℕ = a .args .clock - a .args .since in
-    let fits : getD u₂ (r * width + 5) 0 + more < 2 ^ 64 = omega (arith, c .if2 .left, c .before .slice-known4 .given (r * width + 5)) in
-    closed-measured r (a .args .since) (a .args .clock) (a .args .table .now) (a .pre .0) (a .pre .1) _ (c .before .before .if1 .left) (subst (λ (y : List ℕ). getD y (r * width + 5) 0 + more < 2 ^ 64) e₂ fits) (ap (λ (y : List ℕ). set y (r * width + 5) (getD y (r * width + 5) 0 + more)) e₂)
+returns-3 c =
+    let a = c .before .before .before .before .before .before .before .before .before .before .before .before .args in
+    let e₁ = c .before .before .before .before .before .before .before .before .before .add .ensures in
+    let e = c .before .before .add3 .ensures ∙ ap (λ (x : List ℕ). set x (a .row * width + ticks) (getD x (a .row * width + ticks) 0 + (a .clock - a .since))) e₁ in
+    λ n l long. subst (λ (x : List ℕ). Shut (a .row) (a .since) (a .clock) n (a .table .now) true x) (sym e)
+    (shut-measured (a .row) (a .since) (a .clock) (a .table .now) n l long (c .before .before .before .before .before .before .if1 .left)
+    (omega (arith, c .before .before .before .before .if2 .left, c .before .before .before .before .before .slice-known4 .given (a .row * width + ticks), ap (λ (x : List ℕ). getD x (a .row * width + ticks) 0) e₁)))
 
 pub close-spec : {M : Type 1} → statement M
 close-spec =
     tie.close
     (tie.spec
-    mul-at
-    add-bump
-    bump-requires
-    add-bump-2
-    bump-requires-2
+    add-requires
+    add-requires-2
     same-length
     returns
-    add-ticks
-    mul-ticks
-    slice-read-ticks
+    mul-if2
+    add-if2
+    mul-if2-2
+    slice-read-if2
     sub-if2
     same-length-2
     returns-2
-    add-table
-    add-table-2
-    mul-table
-    slice-write-table
+    add-requires-3
     same-length-3
     returns-3)

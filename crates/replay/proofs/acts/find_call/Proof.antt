@@ -1,4 +1,4 @@
--- `replay::calls::find_call` meets its contract: no call above is of the function. Assumes nothing.
+-- `replay::acts::find_call` meets its contract: no call above is of the function. Assumes nothing.
 use Rattle.replay.proofs.Stacks.{nearest-found, nearest-on}
 use native.Mathlib.Omega.{arith}
 use mathlib.Core.Path.{_≡_, refl, ap, _∙_}
@@ -6,8 +6,8 @@ use Prim.Native.Nat.{ℕ, _-_, _≤_}
 use mathlib.Core.List.{List}
 use Rattle.replay.specs.Stack.{nearest}
 use Rattle.replay.specs.View.{rowsIn, callsIn, RowsBelow}
-use Rattle.replay.proofs.calls.find_call.Statement.{statement}
-use Rattle.replay.proofs.calls.find_call.Tie as tie
+use Rattle.replay.proofs.acts.find_call.Statement.{statement}
+use Rattle.replay.proofs.acts.find_call.Tie as tie
 
 abbrev Inv-loop : tie.InvT-loop
 Inv-loop row depth table id k₀ k = (k ≤ depth) × ((n : ℕ) (at : List ℕ) → RowsBelow depth row n → nearest (rowsIn n table) id (callsIn depth row at) ≡ nearest (rowsIn n table) id (callsIn k row at))
@@ -32,6 +32,9 @@ cast-r c = let k = c .before .before .loop .k in omega (arith, c .before .before
 
 mul-if1 : tie.Need-mul-if1 Inv-loop μ-loop
 mul-if1 c = let k = c .before .before .loop .k in omega (arith, c .before .before .before .pre .1 (k - 1) (omega arith))
+
+add-if1 : tie.Need-add-if1 Inv-loop μ-loop
+add-if1 c = let k = c .before .before .loop .k in omega (arith, c .before .before .before .pre .1 (k - 1) (omega arith))
 
 mul-if1-2 : tie.Need-mul-if1-2 Inv-loop μ-loop
 mul-if1-2 c = let k = c .before .before .loop .k in omega (arith, c .before .before .before .pre .1 (k - 1) (omega arith))
@@ -71,6 +74,7 @@ find-call-spec =
     shared-slice-read-r
     cast-r
     mul-if1
+    add-if1
     mul-if1-2
     shared-slice-read-if1
     returns

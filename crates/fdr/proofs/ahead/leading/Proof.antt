@@ -1,0 +1,23 @@
+-- `fdr::ahead::leading` meets its contract: stage by stage. Assumes nothing.
+use borrow.Author.Needs.{needs}
+use Rattle.fdr.proofs.Calling.{leads}
+use Rattle.fdr.proofs.ahead.leading.Statement.{statement}
+use Rattle.fdr.proofs.ahead.leading.Tie as tie
+
+enum-told : tie.Need-enum-told
+enum-told c = search needs
+
+enum-told-2 : tie.Need-enum-told-2
+enum-told-2 c = search needs
+
+returns : tie.Need-returns
+returns c = search needs
+
+returns-2 : tie.Need-returns-2
+returns-2 c = search needs
+
+returns-3 : tie.Need-returns-3
+returns-3 c = leads (c .before .args .stage) (c .match .keys3)
+
+pub leading-spec : {M : Type 1} → statement M
+leading-spec = tie.close (tie.spec enum-told enum-told-2 returns returns-2 returns-3)

@@ -1,0 +1,92 @@
+// The call ahead of a position: what most steps of the walk find, told by fewer tests than a step makes.
+ghost use mathlib.Core.Path.{_≡_};
+ghost use Prim.Native.Nat.{_+_, _^_, _<_};
+ghost use Rattle.fdr.specs.Walk.{next};
+ghost use Rattle.fdr.specs.Ahead.{callingOf, callIn, leading, behindCall};
+use crate::decode::function_at;
+use crate::grammar::Stage;
+use crate::record::Record;
+use crate::walk::Position;
+
+// A function record that a step finds, with the position behind it, or any other answer of the step.
+pub enum Ahead {
+    Call {
+        action: u8,
+        id: u32,
+        delta: u32,
+        next: Position,
+    },
+    Other,
+}
+
+// Whether a buffer's leading records are not passed yet: no function record may stand there.
+fn leading(stage: Stage) -> bool
+    ensures { λ r. ⌜ r ≡ leading stage ⌝ }
+{
+    match stage {
+        Stage::Body => false,
+        Stage::Arguments => false,
+        _ => true,
+    }
+}
+
+fn behind_call(at: Position, action: u8) -> Position
+    requires { ⌜ at .place + 8 < 2 ^ 64 ⌝ }
+    ensures { λ r. ⌜ r ≡ behindCall at action ⌝ }
+{
+    let place = at.place + Record::FUNCTION_SIZE;
+    let threads = at.threads;
+    if action == Record::ENTRY_ARGS {
+        return Position {
+            place,
+            end: at.end,
+            size: at.size,
+            stage: Stage::Arguments,
+            threads,
+        };
+    }
+    Position {
+        place,
+        end: at.end,
+        size: at.size,
+        stage: Stage::Body,
+        threads,
+    }
+}
+
+pub fn call_ahead(log: &[u8], at: Position) -> Ahead
+    ensures { λ r. ⌜ callingOf r ≡ callIn (next (now (log .entry)) at) ⌝ }
+{
+    let stage = at.stage;
+    let place = at.place;
+    let end = at.end;
+    if leading(stage) {
+        return Ahead::Other;
+    }
+    if log.len() < end {
+        return Ahead::Other;
+    }
+    if end <= place {
+        return Ahead::Other;
+    }
+    if end - place < Record::FUNCTION_SIZE {
+        return Ahead::Other;
+    }
+    let first = log[place];
+    if first % 2 == 1 {
+        return Ahead::Other;
+    }
+    if Record::ENTRY_ARGS < first / 2 % 8 {
+        return Ahead::Other;
+    }
+    let record = function_at(log, place);
+    let Record::Function { action, id, delta } = record else {
+        return Ahead::Other;
+    };
+    Ahead::Call {
+        action,
+        id,
+        delta,
+        next: behind_call(at, action),
+    }
+}

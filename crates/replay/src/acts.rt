@@ -1,0 +1,146 @@
+// What a function record does to the open calls. Its counts and sums go to the table at once; the calls are the caller's to
+// change, by what is answered here.
+ghost use mathlib.Core.Path.{_≡_};
+ghost use mathlib.Core.Bool.{_||_};
+ghost use Prim.Native.Nat.{_≤_};
+ghost use lib.ListN.{length};
+ghost use lib.Dec.{eqb};
+ghost use Rattle.replay.specs.Row.{mostRows, cells};
+ghost use Rattle.replay.specs.View.{RowsBelow, Nearest, Counted, Abandoned, Enterable, Entered, Open, Left, Ready, Called};
+use crate::calls::DEEPEST;
+use crate::row::ABANDONED;
+use crate::row::ENTERED;
+use crate::row::ID;
+use crate::row::MOST_ROWS;
+use crate::row::WIDTH;
+use crate::table::LARGEST;
+use crate::table::add;
+use crate::table::close;
+use crate::table::find_row;
+use fdr::record::Record;
+use fdr::refusal::Refusal;
+
+// A call is opened, in a row and at a clock, with so many rows then; the calls down to a depth are closed; or
+// the record is refused.
+pub enum Act {
+    Push { row: u16, rows: usize, clock: u64 },
+    Pop { depth: usize, clock: u64 },
+    Refuse(Refusal),
+}
+
+// The depth of the nearest open call of an id, or 0.
+fn find_call(row: &[u16], depth: usize, table: &[u64], id: u64) -> usize
+    requires { ⌜ (depth ≤ length (now row)) × RowsBelow depth (now row) mostRows × (cells ≤ length (now table)) ⌝ }
+    ensures { λ r. ⌜ Nearest (now (row .entry)) depth (now (table .entry)) id r ⌝ }
+{
+    let mut k: usize = depth;
+    while 0 < k {
+        let r = row[k - 1] as usize;
+        if table[r * WIDTH + ID] == id {
+            return k;
+        }
+        k -= 1;
+    }
+    0
+}
+
+// Counts the calls above a depth as abandoned.
+fn abandon(row: &[u16], depth: usize, keep: usize, table: &mut [u64])
+    requires { ⌜ (keep ≤ depth) × Counted depth (now row) (now table) ⌝ }
+    ensures { λ _. ⌜ Abandoned depth keep (now (row .entry)) (now (table .entry)) (now (table .exit)) ⌝ }
+{
+    let mut k: usize = depth;
+    while keep < k {
+        k -= 1;
+        let r = row[k] as usize;
+        add(table, r, ABANDONED, 1);
+    }
+}
+
+// Tests 11 and 12, and counts an entry at a clock.
+fn enter(table: &mut [u64], depth: usize, rows: usize, id: u64, clock: u64) -> Act
+    requires { ⌜ Enterable rows (now table) ⌝ }
+    ensures { λ r. ⌜ Entered rows depth id clock (now (table .entry)) r (now (table .exit)) ⌝ }
+{
+    if DEEPEST <= depth {
+        return Act::Refuse(Refusal::Depth);
+    }
+    let r = find_row(table, rows, id);
+    if r < rows {
+        add(table, r, ENTERED, 1);
+        return Act::Push {
+            row: r as u16,
+            rows,
+            clock,
+        };
+    }
+    if MOST_ROWS <= rows {
+        return Act::Refuse(Refusal::FunctionCount);
+    }
+    table[r * WIDTH + ID] = id;
+    table[r * WIDTH + ENTERED] = 1;
+    Act::Push {
+        row: r as u16,
+        rows: rows + 1,
+        clock,
+    }
+}
+
+// Tests 10 and 13, and counts an exit at a clock.
+fn leave<'a>(
+    table: &mut [u64],
+    row: &'a [u16; 256],
+    since: &'a [u64; 256],
+    depth: usize,
+    id: u64,
+    clock: u64,
+) -> Act
+    requires { ⌜ Open depth (now row) (now since) (now table) ⌝ }
+    ensures { λ r. ⌜ Left depth (now (row .entry)) (now (since .entry)) id clock (now (table .entry)) r (now (table .exit)) ⌝ }
+{
+    let found = find_call(row, depth, table, id);
+    if found == 0 {
+        return Act::Refuse(Refusal::NoOpenCall);
+    }
+    abandon(row, depth, found, table);
+    let i = found - 1;
+    let r = row[i] as usize;
+    if close(table, r, since[i], clock) {
+        return Act::Pop { depth: i, clock };
+    }
+    Act::Refuse(Refusal::Ticks)
+}
+
+fn enters(action: u8) -> bool
+    ensures { λ r. ⌜ r ≡ eqb action 0 || eqb action 3 ⌝ }
+{
+    if action == Record::ENTRY {
+        return true;
+    }
+    action == Record::ENTRY_ARGS
+}
+
+// Test 9, and the call that a function record opens or closes.
+pub fn call<'a>(
+    table: &mut [u64],
+    row: &'a [u16; 256],
+    since: &'a [u64; 256],
+    depth: usize,
+    rows: usize,
+    clock: u64,
+    action: u8,
+    id: u64,
+    delta: u64,
+) -> Act
+    requires { ⌜ Ready rows depth (now row) (now since) (now table) ⌝ }
+    ensures { λ r. ⌜ Called rows depth (now (row .entry)) (now (since .entry)) clock action id delta (now (table .entry)) r (now (table .exit)) ⌝ }
+{
+    if LARGEST - delta < clock {
+        return Act::Refuse(Refusal::Clock);
+    }
+    let now = clock + delta;
+    if enters(action) {
+        return enter(table, depth, rows, id, now);
+    }
+    leave(table, row, since, depth, id, now)
+}
