@@ -1,12 +1,20 @@
 // Replays one log of at most 65,536 bytes from standard input, and prints its report or its refusal.
+ghost use Prim.Native.Nat.{_<_};
 ghost use lib.ListN.{length};
+ghost use Rattle.replay.specs.Row.{mostRows};
 ghost use Rattle.replay_stdin.specs.Input.{Within};
 use libc::STDIN_FILENO;
 use libc::STDOUT_FILENO;
 use replay::Answer;
+use replay::row::CELLS;
+use replay::row::MOST_ROWS;
+use replay::row::WIDTH;
 
 // The longest log.
 const LONGEST: usize = 65536;
+
+// The last column of a row.
+const LAST: usize = WIDTH - 1;
 
 // What reading came to: so many bytes, none at the input's end.
 enum Input {
@@ -48,38 +56,31 @@ fn print_number(number: u64, behind: &[u8]) {
     io::write_all(STDOUT_FILENO, behind);
 }
 
-fn print_row(row: &[u64; 6]) {
-    print_number(row[0], b" ");
-    print_number(row[1], b" ");
-    print_number(row[2], b" ");
-    print_number(row[3], b" ");
-    print_number(row[4], b" ");
-    print_number(row[5], b"\n");
+// The numbers of a row, in a line.
+fn print_row(table: &[u64; CELLS], row: usize)
+    requires { ⌜ row < mostRows ⌝ }
+{
+    let mut column: usize = 0;
+    while column < LAST {
+        print_number(table[row * WIDTH + column], b" ");
+        column += 1;
+    }
+    print_number(table[row * WIDTH + LAST], b"\n");
 }
 
-fn print_rows(table: &[u64; 6144], rows: u64) {
+fn print_rows(table: &[u64; CELLS], rows: u64) {
     let mut row: usize = 0;
-    while row < 1024 {
+    while row < MOST_ROWS {
         if rows <= row as u64 {
             return;
         }
-        let i = row * 6;
-        print_row(
-            &[
-                table[i],
-                table[i + 1],
-                table[i + 2],
-                table[i + 3],
-                table[i + 4],
-                table[i + 5],
-            ],
-        );
+        print_row(table, row);
         row += 1;
     }
 }
 
 fn print_replay(log: &[u8]) {
-    let mut table = [0u64; 6144];
+    let mut table = [0u64; CELLS];
     let answer = replay::replay(log, &mut table);
     match answer {
         Answer::Report {
