@@ -1,6 +1,6 @@
 // Which record may stand where in a buffer, and which thread a buffer may name.
 ghost use mathlib.Core.Path.{_≡_};
-ghost use Rattle.fdr.specs.Grammar.{follows, inBody, joinedBy};
+ghost use Rattle.fdr.specs.Grammar.{followingOf, inBody, follows, joiningOf, joinedBy};
 use crate::record::Record;
 
 // A place in the grammar of a buffer.
@@ -36,7 +36,7 @@ pub enum Joined {
 }
 
 fn in_body(record: Record) -> Follow
-    ensures { λ r. ⌜ r ≡ inBody «record» ⌝ }
+    ensures { λ r. ⌜ followingOf r ≡ inBody «record» ⌝ }
 {
     match record {
         Record::Function {
@@ -62,7 +62,7 @@ fn in_body(record: Record) -> Follow
 }
 
 pub fn after(stage: Stage, record: Record) -> Follow
-    ensures { λ r. ⌜ r ≡ follows stage «record» ⌝ }
+    ensures { λ r. ⌜ followingOf r ≡ follows stage «record» ⌝ }
 {
     match stage {
         Stage::Between => match record {
@@ -89,7 +89,7 @@ pub fn after(stage: Stage, record: Record) -> Follow
 }
 
 pub fn join(threads: Threads, record: Record) -> Joined
-    ensures { λ r. ⌜ r ≡ joinedBy threads «record» ⌝ }
+    ensures { λ r. ⌜ joiningOf r ≡ joinedBy threads «record» ⌝ }
 {
     let Record::NewBuffer { thread } = record else {
         return Joined::Agreed(threads);

@@ -1,6 +1,7 @@
 -- `fdr::walk::admit` meets its contract: each answer by the law of the test that applies. Assumes nothing.
 use Rattle.fdr.proofs.Walking.{may-not, event-past, other-thread, crossed, went-on}
 use Rattle.fdr.proofs.Records.{not-kind}
+use Rattle.fdr.specs.Grammar.{followingOf, joiningOf}
 use Rattle.fdr.specs.Walk.{steppingOf}
 use Rattle.fdr.specs.Record.{kindOf}
 use mathlib.Core.List.{[], _∷_}
@@ -27,7 +28,7 @@ returns c =
     let a = c .before .before .before .before .args in
     ap steppingOf (c .refused .ensures)
     ∙ sym
-    (may-not (a .at) (a .end) (a .«record») (a .behind) _ (sym (c .before .before .before .after .ensures) ∙ c .before .enum-told .given .1))
+    (may-not (a .at) (a .end) (a .«record») (a .behind) _ _ (sym (c .before .before .before .after .ensures) ∙ ap followingOf (c .before .enum-told .given .1)))
 
 event-size-requires : tie.Need-event-size-requires
 event-size-requires c κs = search needs
@@ -43,7 +44,7 @@ returns-2 c =
     let a = c .before .before .before .before .before .before .before .args in
     ap steppingOf (c .refused2 .ensures)
     ∙ sym (event-past (a .at) (a .end) (a .«record») (a .behind) _ _
-    (sym (c .before .before .before .before .before .before .after .ensures) ∙ c .before .before .before .before .followed .given .1)
+    (sym (c .before .before .before .before .before .before .after .ensures) ∙ ap followingOf (c .before .before .before .before .followed .given .1))
     (omega (arith, c .before .if1 .taken, c .before .before .event-size .ensures, c .before .before .before .before .before .before .before .pre)))
 
 join-requires : tie.Need-join-requires
@@ -63,9 +64,9 @@ returns-3 c =
     let a = c .before .before .before .before .before .before .before .before .before .before .args in
     ap steppingOf (c .refused3 .ensures)
     ∙ sym (other-thread (a .at) (a .end) (a .«record») (a .behind) _ _
-    (sym (c .before .before .before .before .before .before .before .before .before .after .ensures) ∙ c .before .before .before .before .before .before .before .followed .given .1)
-    (omega (arith, c .before .before .before .before .if1 .left, c .before .before .before .before .before .event-size .ensures, c .before .before .before .before .before .before .before .before .before .before .pre))
-    (sym (c .before .before .before .join .ensures) ∙ c .before .enum-told2 .given .1))
+    (sym (c .before .before .before .before .before .before .before .before .before .after .ensures) ∙ ap followingOf (c .before .before .before .before .before .before .before .followed .given .1))
+    (omega (arith, c .before .before .before .before .if1 .left, c .before .before .before .before .before .event-size .ensures, c .before .before .before .before .before .before .before .before .before .before .pre)) _
+    (sym (c .before .before .before .join .ensures) ∙ ap joiningOf (c .before .enum-told2 .given .1)))
 
 add-place-after : tie.Need-add-place-after
 add-place-after c = search needs
@@ -77,17 +78,17 @@ returns-4 : tie.Need-returns-4
 returns-4 c =
     let a = c .before .before .before .before .before .before .before .before .before .before .before .before .args in
     sym (crossed (a .at) (a .end) (a .«record») (a .behind) _ _
-    (sym (c .before .before .before .before .before .before .before .before .before .before .before .after .ensures) ∙ c .before .before .before .before .before .before .before .before .before .followed .given .1)
+    (sym (c .before .before .before .before .before .before .before .before .before .before .before .after .ensures) ∙ ap followingOf (c .before .before .before .before .before .before .before .before .before .followed .given .1))
     (omega (arith, c .before .before .before .before .before .before .if1 .left, c .before .before .before .before .before .before .before .event-size .ensures, c .before .before .before .before .before .before .before .before .before .before .before .before .pre)) _
-    (sym (c .before .before .before .before .before .join .ensures) ∙ c .before .before .before .joined .given .1) (ap kindOf (c .enum-told3 .given .1)))
+    (sym (c .before .before .before .before .before .join .ensures) ∙ ap joiningOf (c .before .before .before .joined .given .1)) (ap kindOf (c .enum-told3 .given .1)))
 
 returns-5 : tie.Need-returns-5
 returns-5 c =
     let a = c .before .before .before .before .before .before .before .before .before .before .before .args in
     sym (went-on (a .at) (a .end) (a .«record») (a .behind) _ _
-    (sym (c .before .before .before .before .before .before .before .before .before .before .after .ensures) ∙ c .before .before .before .before .before .before .before .before .followed .given .1)
+    (sym (c .before .before .before .before .before .before .before .before .before .before .after .ensures) ∙ ap followingOf (c .before .before .before .before .before .before .before .before .followed .given .1))
     (omega (arith, c .before .before .before .before .before .if1 .left, c .before .before .before .before .before .before .event-size .ensures, c .before .before .before .before .before .before .before .before .before .before .before .pre)) _
-    (sym (c .before .before .before .before .join .ensures) ∙ c .before .before .joined .given .1) _
+    (sym (c .before .before .before .before .join .ensures) ∙ ap joiningOf (c .before .before .joined .given .1)) _
     (c .before .before .before .before .before .before .event-size .ensures)
     (not-kind 1 (0 ∷ 2 ∷ 3 ∷ 4 ∷ 5 ∷ 6 ∷ 7 ∷ []) (a .«record») tt (c .match3 .keys2)))
 
