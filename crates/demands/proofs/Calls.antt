@@ -7,7 +7,7 @@ use native.Mathlib.Omega.{arith}
 use borrow.Author.Tests.{ltb-false, not-false, eq-eqb}
 use lib.ListN.{length, length-append}
 use Rattle.fdr.specs.Number.{byteAt}
-use Rattle.fdr.specs.Grammar.{agreedWith}
+use Rattle.fdr.specs.Grammar.{joins, agreedWith}
 use Rattle.fdr.specs.Encoded.{recordBytes}
 use Rattle.record_writer.specs.Writing.{eventOf, sizedBy, bytesFor, fieldTests}
 use Rattle.record_writer.specs.RoundTrip.{Typed}
@@ -15,7 +15,6 @@ use Rattle.fdr.specs.declared.record.Record.{Record}
 use Rattle.fdr.specs.declared.grammar.Stage.the-variants.{Between}
 use Rattle.fdr.specs.declared.grammar.Threads.{Threads}
 use Rattle.fdr.specs.declared.grammar.Threads.the-variants.{Unseen, One}
-use Rattle.fdr.specs.declared.grammar.Joined.the-variants.{Agreed}
 use Rattle.fdr.specs.declared.walk.Position.{Position}
 use Rattle.record_writer.proofs.ReadBack.{Here}
 use Rattle.log_writer.specs.declared.Writer.{Writer}
@@ -39,7 +38,7 @@ startAt size = record { place = 32; end = 32; size = size; stage = Between; thre
 -- writer stands, past the records.
 pub record Written (header : List ℕ) (size room : ℕ) (w : Writer) (out : List ℕ) (logged : List Logged) : Type 0 where
   pub threads : Threads
-  pub agreed : agreedWith threads (w .thread) ≡ Agreed (One (w .thread))
+  pub agreed : agreedWith threads (w .thread) ≡ joins (One (w .thread))
   pub small : w .thread < 2 ^ 16
   pub sized : w .size ≡ size
   pub long : length out ≡ room
@@ -47,7 +46,7 @@ pub record Written (header : List ℕ) (size room : ℕ) (w : Writer) (out : Lis
   pub headed : (i : ℕ) → i < 32 → byteAt out i ≡ byteAt header i
   pub read : (s : List ℕ) → w .end ≤ length s → ((i : ℕ) → i < w .place → byteAt s i ≡ byteAt out i) → ReadsTo s (startAt size) (posOf w threads) logged
 
-agreed-again : (thread : ℕ) → agreedWith (One thread) thread ≡ Agreed (One thread)
+agreed-again : (thread : ℕ) → agreedWith (One thread) thread ≡ joins (One thread)
 agreed-again thread = rw (eq-eqb thread thread refl, agreedWith)
 
 -- The next state stands behind the bytes put.
@@ -65,7 +64,7 @@ module _ (header : List ℕ) (size room : ℕ) (w : Writer) (out : List ℕ) (lo
   abbrev Result : Call → Type 0
   Result c = Written header size room (stateAfter w c) (put (callBytes w c) (w .place) out) (logged ++ loggedBy w c)
 
-  put-on : (c : Call) → Passes (callTests w c room) → (threads : Threads) → agreedWith threads (w .thread) ≡ Agreed (One (w .thread))
+  put-on : (c : Call) → Passes (callTests w c room) → (threads : Threads) → agreedWith threads (w .thread) ≡ joins (One (w .thread))
       → ((s : List ℕ) → stateAfter w c .end ≤ length s → Here s (w .place) (callBytes w c) → ReadsTo s (posOf w (h .threads)) (posOf (stateAfter w c) threads) (loggedBy w c))
       → Result c
   put-on c p threads agreed reads =

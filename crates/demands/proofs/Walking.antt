@@ -8,7 +8,7 @@ use borrow.Author.Tests.{le-leb}
 use lib.ListN.{length, take, drop, length-append}
 use Rattle.fdr.specs.Number.{zeros}
 use Rattle.fdr.specs.Record.{sizeOf, eventSize}
-use Rattle.fdr.specs.Grammar.{follows, agreedWith, joinedBy}
+use Rattle.fdr.specs.Grammar.{onto, follows, joins, agreedWith, joinedBy}
 use Rattle.fdr.specs.Encoded.{recordBytes}
 use Rattle.record_writer.specs.Writing.{eventOf, sizedBy, bytesFor}
 use Rattle.record_writer.specs.RoundTrip.{Typed}
@@ -18,10 +18,8 @@ use Rattle.fdr.specs.declared.record.Record.{Record}
 use Rattle.fdr.specs.declared.record.Record.the-variants.{NewBuffer, EndOfBuffer, NewCpuId, WallTime}
 use Rattle.fdr.specs.declared.grammar.Stage.{Stage}
 use Rattle.fdr.specs.declared.grammar.Stage.the-variants.{Between, WallTimeNext, CpuNext, Body}
-use Rattle.fdr.specs.declared.grammar.Follow.the-variants.{To}
 use Rattle.fdr.specs.declared.grammar.Threads.{Threads}
 use Rattle.fdr.specs.declared.grammar.Threads.the-variants.{One}
-use Rattle.fdr.specs.declared.grammar.Joined.the-variants.{Agreed}
 use Rattle.fdr.specs.declared.walk.Position.{Position}
 use Rattle.fdr.proofs.Bounds.{Bounded}
 use Rattle.fdr.proofs.Records.{sized-some}
@@ -65,7 +63,7 @@ module _ (s : List ℕ) (p : Position) where
 
   -- A record that stands at the position, that the grammar allows there, and that lies within the buffer.
   reads : (e : ℕ) (x : Record) (stage : Stage) (threads : Threads) (n : ℕ) → next s p ≡ stepIn s p e → e ≤ length s → Bounded x → Here s (p .place) (recordBytes x)
-      → p .place + sizeOf x + eventSize x ≤ e → follows (p .stage) x ≡ To stage → joinedBy (p .threads) x ≡ Agreed threads → behind x (p .place + sizeOf x) e ≡ n
+      → p .place + sizeOf x + eventSize x ≤ e → follows (p .stage) x ≡ onto stage → joinedBy (p .threads) x ≡ joins threads → behind x (p .place + sizeOf x) e ≡ n
       → ReadsTo s p (record { place = n; end = e; size = p .size; stage = stage; threads = threads }) (loggedAt s (p .place) x ∷ [])
   reads e x stage threads n in-it inLog bound here fits to join b =
       let at : Placed s e (p .place) x (p .place + sizeOf x) =
@@ -111,7 +109,7 @@ module _ (s : List ℕ) (w : Writer) (threads : Threads) where
       (here-first s (w .place) (recordBytes EndOfBuffer) (zeros (w .end - (w .place + 16))) here) (omega arith)
       (open-end (w .stage) o) refl refl
 
-  pub reads-opened : (seconds micros cpu tsc : ℕ) → w .place + w .size ≤ length s → 64 ≤ w .size → w .stage ≡ Between → w .thread < 2 ^ 16 → agreedWith threads (w .thread) ≡ Agreed (One (w .thread))
+  pub reads-opened : (seconds micros cpu tsc : ℕ) → w .place + w .size ≤ length s → 64 ≤ w .size → w .stage ≡ Between → w .thread < 2 ^ 16 → agreedWith threads (w .thread) ≡ joins (One (w .thread))
       → Typed (WallTime seconds micros) → Typed (NewCpuId cpu tsc) → Here s (w .place) (callBytes w (opening seconds micros cpu tsc))
       → ReadsTo s (posOf w threads) (posOf (stateAfter w (opening seconds micros cpu tsc)) (One (w .thread))) (loggedBy w (opening seconds micros cpu tsc))
   unfolding callBytes stateAfter
