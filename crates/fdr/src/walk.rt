@@ -1,7 +1,9 @@
 // The walk from record to record, over a position by value.
 ghost use mathlib.Core.Path.{_≡_};
-ghost use Prim.Native.Nat.{_≤_};
-ghost use Rattle.fdr.specs.Walk.{grammarTest, stepIn, next, steppingOf, startOf};
+ghost use Prim.Native.Nat.{ℕ, _≤_};
+ghost use Rattle.fdr.specs.Reading.{readingOf};
+ghost use Rattle.fdr.specs.Reading as reading;
+ghost use Rattle.fdr.specs.Walk.{stopped, grammarTest, stepIn, next, steppingOf, startOf};
 ghost use Rattle.fdr.specs.Grammar.{follows};
 use crate::decode::record_at;
 use crate::grammar::Follow;
@@ -52,6 +54,16 @@ fn refused(refusal: Refusal, place: usize) -> Step
     Step::Refused { refusal, place }
 }
 
+// No record was read: its refusal is the walk's.
+fn unread(read: Read) -> Step
+    ensures { λ r. ⌜ ((n place : ℕ) → readingOf read ≡ reading.refused n place → steppingOf r ≡ stopped n place) ⌝ }
+{
+    let Read::Refused { refusal, place } = read else {
+        return Step::Over;
+    };
+    refused(refusal, place)
+}
+
 // Tests 7, 5 (its event) and 8 of a record that ends at `behind`.
 fn admit(at: Position, end: usize, record: Record, behind: usize) -> Step
     requires { ⌜ behind ≤ end ⌝ }
@@ -93,10 +105,10 @@ fn step_in(log: &[u8], at: Position, end: usize) -> Step
     ensures { λ r. ⌜ steppingOf r ≡ stepIn (now (log .entry)) at end ⌝ }
 {
     let read = record_at(log, end, at.place);
-    match read {
-        Read::Found { record, next } => admit(at, end, record, next),
-        Read::Refused { refusal, place } => refused(refusal, place),
-    }
+    let Read::Found { record, next } = read else {
+        return unread(read);
+    };
+    admit(at, end, record, next)
 }
 
 // One step, from any position at all.
