@@ -5,5 +5,5 @@ use Rattle.replay_stdin.specs.declared.Input.the-variants.{Bytes, Failed
 
 -- What was read lies in the buffer.
 abbrev pub Within : Input → ℕ → Type 0
-Within (Bytes n) length = n ≤ length
-Within Failed length = Unit
+Within (Bytes n) room = n ≤ room
+Within Failed room = Unit
