@@ -1,8 +1,10 @@
 -- The comparison of two times (paper 01, "Writer and comparison" and "The numbered refusals"). Assumes nothing.
 use Prim.Native.Nat.{ℕ, _*_}
 use mathlib.Core.Bool.{Bool, true, false, _||_}
+use mathlib.Core.List.{List, [], _∷_}
 use lib.Dec.{eqb, leb, ltb}
 use Rattle.fdr.specs.Refusal.{numberOf}
+use Rattle.fdr.specs.Tests.{Test, test, firstOf}
 use Rattle.compare.specs.declared.Side.{Side}
 use Rattle.compare.specs.declared.Compared.{Compared}
 use Rattle.compare.specs.declared.Compared.the-variants.{Lower, Equal, Higher, Refused}
@@ -31,13 +33,11 @@ noMeasuredCall x = leb (x .closed) (x .backward)
 unfoldable pub byNumbers : ℕ → ℕ → Comparison
 byNumbers m n = elim (ltb m n) [ true ↦ lower | false ↦ elim (eqb m n) [ true ↦ equal | false ↦ higher ] ]
 
--- "It tests 17, then 18, and answers lower, equal or higher by the whole numbers ticksA times frequencyB and
--- ticksB times frequencyA, whose products can need 128 bits."
+-- "It tests 17, then 18"
+abbrev pub sideTests : Side → Side → List Test
+sideTests a b = test (noUnit a || noUnit b) 17 ∷ test (noMeasuredCall a || noMeasuredCall b) 18 ∷ []
+
+-- "and answers lower, equal or higher by the whole numbers ticksA times frequencyB and ticksB times frequencyA, whose
+-- products can need 128 bits."
 unfoldable pub compared : Side → Side → Comparison
-compared a b = elim (noUnit a || noUnit b) [
-  | true ↦ refused 17
-  | false ↦ elim (noMeasuredCall a || noMeasuredCall b) [
-    | true ↦ refused 18
-    | false ↦ byNumbers (a .ticks * b .frequency) (b .ticks * a .frequency)
-  ]
-]
+compared a b = firstOf refused (sideTests a b) (byNumbers (a .ticks * b .frequency) (b .ticks * a .frequency))
