@@ -3,6 +3,8 @@ ghost use mathlib.Core.Path.{_≡_};
 ghost use Prim.Native.Nat.{_+_, _^_, _<_};
 ghost use Rattle.fdr.specs.Walk.{next};
 ghost use Rattle.fdr.specs.Ahead.{callingOf, callIn, leading, behindCall};
+use crate::bits::First;
+use crate::bits::told_by;
 use crate::decode::function_at;
 use crate::grammar::Stage;
 use crate::record::Record;
@@ -72,13 +74,10 @@ pub fn call_ahead(log: &[u8], at: Position) -> Ahead
     if end - place < Record::FUNCTION_SIZE {
         return Ahead::Other;
     }
-    let first = log[place];
-    if first % 2 == 1 {
+    let told = told_by(log[place]);
+    let First::Action(_) = told else {
         return Ahead::Other;
-    }
-    if Record::ENTRY_ARGS < first / 2 % 8 {
-        return Ahead::Other;
-    }
+    };
     let record = function_at(log, place);
     let Record::Function { action, id, delta } = record else {
         return Ahead::Other;

@@ -5,7 +5,6 @@ ghost use Rattle.fdr.specs.Reading.{readingOf};
 ghost use Rattle.fdr.specs.Reading as reading;
 ghost use Rattle.fdr.specs.Walk.{stopped, grammarTest, stepIn, next, steppingOf, startOf};
 ghost use Rattle.fdr.specs.Grammar.{follows};
-use crate::decode::record_at;
 use crate::grammar::Follow;
 use crate::grammar::Joined;
 use crate::grammar::Stage;
@@ -14,6 +13,7 @@ use crate::grammar::after;
 use crate::grammar::join;
 use crate::header::Header;
 use crate::reader::Read;
+use crate::reader::record_at;
 use crate::record::Record;
 use crate::refusal::Refusal;
 
