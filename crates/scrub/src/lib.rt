@@ -21,9 +21,6 @@ pub enum Answer {
     Refused { refusal: Refusal, place: u64 },
 }
 
-// The bytes of the header that are not hidden.
-const HEADER_VISIBLE: usize = 24;
-
 // The walk found no record: the log is over, or it is refused.
 fn ended(step: Step) -> Answer
     ensures { λ r. ⌜ scrubbingOf r ≡ endOf (steppingOf step) ⌝ }
@@ -60,7 +57,7 @@ fn scrub_records(log: &mut [u8], header: Header) -> Answer
     let first = fdr::walk::start(header);
     let checked = check(log, first);
     if let Answer::Scrubbed = checked {
-        zero(log, HEADER_VISIBLE, Record::HEADER_SIZE);
+        zero(log, Record::HEADER_VISIBLE, Record::HEADER_SIZE);
         wipe(log, first);
     }
     checked
