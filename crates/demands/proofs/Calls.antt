@@ -7,10 +7,9 @@ use native.Mathlib.Omega.{arith}
 use borrow.Author.Tests.{ltb-false, not-false, eq-eqb, eqb-true}
 use lib.ListN.{length}
 use Rattle.fdr.specs.Number.{byteAt}
-use Rattle.fdr.specs.Record.{eventSize}
+use Rattle.fdr.specs.Record.{eventSize, Typed}
 use Rattle.fdr.specs.Grammar.{agreedWith}
 use Rattle.record_writer.specs.Writing.{eventOf, fieldTests}
-use Rattle.record_writer.specs.RoundTrip.{Typed}
 use Rattle.fdr.specs.declared.record.Record.{Record}
 use Rattle.fdr.specs.declared.grammar.Stage.the-variants.{Between}
 use Rattle.fdr.specs.declared.grammar.Threads.{Threads}

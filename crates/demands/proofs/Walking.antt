@@ -7,11 +7,10 @@ use native.Mathlib.Omega.{arith}
 use borrow.Author.Tests.{le-leb}
 use lib.ListN.{length, take, drop}
 use Rattle.fdr.specs.Number.{zeros}
-use Rattle.fdr.specs.Record.{sizeOf, eventSize}
+use Rattle.fdr.specs.Record.{sizeOf, eventSize, Typed, Bounded}
 use Rattle.fdr.specs.Grammar.{follows, agreedWith, joinedBy}
 use Rattle.fdr.specs.Encoded.{recordBytes}
 use Rattle.record_writer.specs.Writing.{eventOf}
-use Rattle.record_writer.specs.RoundTrip.{Typed}
 use Rattle.fdr.specs.Walk.{went, inFront, behind, threadTest, grammarTest, stepIn, next}
 use Rattle.fdr.specs.Trace.{item, done, traceFrom, finished}
 use Rattle.fdr.specs.declared.record.Record.{Record}
@@ -23,7 +22,6 @@ use Rattle.fdr.specs.declared.grammar.Threads.{Threads}
 use Rattle.fdr.specs.declared.grammar.Threads.the-variants.{One}
 use Rattle.fdr.specs.declared.grammar.Joined.the-variants.{Agreed}
 use Rattle.fdr.specs.declared.walk.Position.{Position}
-use Rattle.fdr.proofs.Bounds.{Bounded}
 use Rattle.fdr.proofs.Records.{sized-some}
 use Rattle.fdr.proofs.Decoding.{Placed, found-at}
 use Rattle.record_writer.proofs.Writing.{length-record}
