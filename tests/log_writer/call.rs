@@ -44,11 +44,7 @@ impl Call {
             Call::Open(opening) => opening.second().records(thread).map(plain).to_vec(),
             Call::Close => vec![plain(Record::EndOfBuffer)],
             Call::Add { fields, event } => match fields.record() {
-                // "An event, whose size is the length of the bytes given."
-                Record::CustomEvent { tsc, .. } => {
-                    let size = event.len() as u32;
-                    vec![(Record::CustomEvent { size, tsc }, event.clone())]
-                }
+                record @ Record::CustomEvent { .. } => vec![(record, event.clone())],
                 record => vec![plain(record)],
             },
         }

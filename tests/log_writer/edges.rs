@@ -20,7 +20,7 @@ pub struct Case<'a> {
     pub last: Option<&'a Record>,
 }
 
-pub const EDGES: [Edge; 29] = [
+pub const EDGES: [Edge; 33] = [
     ("size 63: 16", |case| case.starts(63) == Some(16)),
     ("size 64: taken", |case| case.starts(64) == Some(0)),
     ("size 16,777,184: taken", |case| {
@@ -103,6 +103,19 @@ pub const EDGES: [Edge; 29] = [
     }),
     ("event over 65,535: taken", |case| {
         case.event().is_some_and(|length| length > 65_535) && case.number() == 0
+    }),
+    ("event of a larger size: 7", |case| {
+        case.size_above_length().is_some_and(|above| above > 0) && case.number() == 7
+    }),
+    ("event of a smaller size: 7", |case| {
+        case.size_above_length().is_some_and(|above| above < 0) && case.number() == 7
+    }),
+    ("its size and no room: 7", |case| {
+        let other = case.size_above_length().is_some_and(|above| above != 0);
+        other && case.event() > Some(case.room()) && case.number() == 7
+    }),
+    ("bytes and no event: taken", |case| {
+        case.event().is_none() && case.has_bytes() && case.number() == 0
     }),
     ("event to the end: taken", |case| {
         case.event().is_some_and(|length| length == case.room()) && case.number() == 0
@@ -190,6 +203,20 @@ impl Case<'_> {
             }
             _ => None,
         }
+    }
+
+    /// By how much the size of the event that is added to an open buffer is more
+    /// than the length of its bytes.
+    fn size_above_length(&self) -> Option<i64> {
+        match self.added()? {
+            Record::CustomEvent { size, .. } => Some(i64::from(size) - self.event()? as i64),
+            _ => None,
+        }
+    }
+
+    /// Whether bytes come with the record that is added.
+    fn has_bytes(&self) -> bool {
+        matches!(self.call, Call::Add { event, .. } if !event.is_empty())
     }
 
     /// The bytes for an event behind its marker.

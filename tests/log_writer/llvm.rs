@@ -106,10 +106,8 @@ fn write(session: &mut Session, size: u64, buffers: u64) -> Result<(), String> {
 fn add(session: &mut Session) -> Call {
     let arguments = session.stage() == Some(Stage::Arguments);
     let kind = making::kind(session.random, arguments);
-    let fields = Fields::any(session.random, kind);
     let length = 8 * (1 + session.random.index(6));
-    let event = session.random.bytes(length);
-    Call::Add { fields, event }
+    making::record(session.random, kind, length)
 }
 
 /// The dump is the line of each record, and of each 8 bytes of a skipped rest.

@@ -74,13 +74,29 @@ fn add(random: &mut Random, state: &State) -> Call {
         WIDE.. if random.once_in(4) => EVENT,
         _ => kind(random, state.stage == Stage::Arguments),
     };
-    let fields = Fields::any(random, kind);
     let length = match kind {
         EVENT => event_length(random, left(state)),
         // Bytes given with any other record are left aside.
         _ if random.once_in(5) => 1 + random.index(40),
         _ => 0,
     };
+    record(random, kind, length)
+}
+
+/// A record of this kind with any fields, and this many bytes. The size that an
+/// event's record carries is at times another than their number.
+pub fn record(random: &mut Random, kind: u64, length: usize) -> Call {
+    let mut fields = Fields::any(random, kind);
+    let given = length as u64;
+    match (kind, random.below(20)) {
+        (EVENT, 0) => fields.values[0] = given.wrapping_sub(1),
+        (EVENT, 1) => fields.values[0] = given + 1,
+        (EVENT, 2) => fields.values[0] = given ^ 1 << random.below(32),
+        // The size has 32 bits: this is the length again.
+        (EVENT, 3) => fields.values[0] = given + (1 << 32),
+        (EVENT, 5..) => fields.values[0] = given,
+        _ => {}
+    }
     let event = random.bytes(length);
     Call::Add { fields, event }
 }

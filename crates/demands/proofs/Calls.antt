@@ -4,13 +4,12 @@ use mathlib.Core.Path.{_≡_, refl, sym, _∙_}
 use mathlib.Core.Bool.{true}
 use mathlib.Core.List.{List, [], _∷_, _++_, append-nil, append-assoc}
 use native.Mathlib.Omega.{arith}
-use borrow.Author.Tests.{ltb-false, not-false, eq-eqb}
-use lib.ListN.{length, length-append}
+use borrow.Author.Tests.{ltb-false, not-false, eq-eqb, eqb-true}
+use lib.ListN.{length}
 use Rattle.fdr.specs.Number.{byteAt}
+use Rattle.fdr.specs.Record.{eventSize, Typed}
 use Rattle.fdr.specs.Grammar.{joins, agreedWith}
-use Rattle.fdr.specs.Encoded.{recordBytes}
-use Rattle.record_writer.specs.Writing.{eventOf, sizedBy, bytesFor, fieldTests}
-use Rattle.record_writer.specs.RoundTrip.{Typed}
+use Rattle.record_writer.specs.Writing.{eventOf, fieldTests}
 use Rattle.fdr.specs.declared.record.Record.{Record}
 use Rattle.fdr.specs.declared.grammar.Stage.the-variants.{Between}
 use Rattle.fdr.specs.declared.grammar.Threads.{Threads}
@@ -19,7 +18,7 @@ use Rattle.fdr.specs.declared.walk.Position.{Position}
 use Rattle.record_writer.proofs.ReadBack.{Here}
 use Rattle.log_writer.specs.declared.Writer.{Writer}
 use Rattle.log_writer.specs.Start.{Outcome, went, denied, put}
-use Rattle.log_writer.specs.Call.{Call, opening, adding, closing, isOpen, takes, callBytes, stateAfter, callTests, called, outputCalled}
+use Rattle.log_writer.specs.Call.{Call, opening, adding, closing, isOpen, takes, addedBytes, callBytes, stateAfter, callTests, called, outputCalled}
 use Rattle.log_writer.specs.Session.{Logged, loggedBy, stateIn, outputIn, acceptedIn, TypedCall, TypedCalls}
 use Rattle.log_writer.proofs.Tests.{Passes, went-passes, passes-first, passes-behind}
 use Rattle.log_writer.proofs.Stages.{in-front-between}
@@ -89,21 +88,20 @@ module _ (header : List ℕ) (size room : ℕ) (w : Writer) (out : List ℕ) (lo
       }
 
   added : (r : Record) (given : List ℕ) → Typed r → Passes (callTests w (adding r given) room) → Result (adding r given)
-  unfolding callTests callBytes stateAfter bytesFor
+  unfolding callTests callBytes stateAfter
   added r given typed p =
       let t : takes (w .stage) r ≡ true = not-false _ (p .0) in
-      let fits : w .place + length (bytesFor r given) + 16 ≤ w .end = ltb-false _ _ (passes-behind (fieldTests r) _ (p .1) .0) in
-      let parts : length (bytesFor r given) ≡ length (recordBytes (sizedBy given r)) + length (eventOf r given) = length-append (recordBytes (sizedBy given r)) (eventOf r given) in
-      let inLog : w .end ≤ 16777216 = h .state .inLog in
+      let own : length (eventOf r given) ≡ eventSize r = sym (eqb-true _ _ (not-false _ (p .1 .0))) in
+      let fits : w .place + length (addedBytes r given) + 16 ≤ w .end = ltb-false _ _ (passes-behind (fieldTests r) _ (p .1 .1) .0) in
       put-on (adding r given) p (h .threads) (h .agreed)
-      (λ s inLog here. reads-added s w (h .threads) r given inLog t (fields-bound r given typed (omega arith) (passes-first (fieldTests r) _ (p .1))) (omega arith) here)
+      (λ s inLog here. reads-added s w (h .threads) r given inLog t own (fields-bound r typed (passes-first (fieldTests r) _ (p .1 .1))) (omega arith) here)
 
   accepts : (c : Call) → TypedCall c → Passes (callTests w c room) → Result c
   unfolding callTests stateAfter
   accepts (opening seconds micros cpu tsc) typed p =
       put-on (opening seconds micros cpu tsc) p (One (w .thread)) (agreed-again (w .thread))
       (λ s inLog here. reads-opened s w (h .threads) seconds micros cpu tsc inLog (h .state .least) (in-front-between (w .stage) (not-false _ (p .0))) (h .small) (h .agreed) (typed .0) (typed .1) here)
-  accepts (adding r given) typed p = added r given typed p
+  accepts (adding r given) typed p = added r given (typed .0) p
   accepts closing typed p =
       let o : isOpen (w .stage) ≡ true = not-false _ (p .0) in
       put-on closing p (h .threads) (h .agreed) (λ s inLog here. reads-closed s w (h .threads) inLog o (in-buffer (h .state) o .fits) here)

@@ -12,10 +12,11 @@ use Rattle.fdr.specs.Walk.{inFront}
 use Rattle.fdr.specs.Trace.{done, traceFrom, trace, finished}
 use Rattle.fdr.specs.declared.grammar.Stage.the-variants.{Between}
 use Rattle.fdr.specs.declared.grammar.Threads.the-variants.{Unseen}
+use Rattle.record_writer.specs.Writing.{startTests}
 use Rattle.fdr.proofs.Tracing.{trace-passed}
 use Rattle.record_writer.proofs.Rewriting.{roundTrips}
 use Rattle.log_writer.specs.declared.Writer.{Writer}
-use Rattle.log_writer.specs.Start.{put, fresh, startTests, started, outputStarted}
+use Rattle.log_writer.specs.Start.{put, fresh, started, outputStarted}
 use Rattle.log_writer.specs.Session.{Logged}
 use Rattle.log_writer.proofs.Tests.{Passes, went-passes}
 use Rattle.log_writer.proofs.Sound.{Sound, evenly, at-end, in-log}

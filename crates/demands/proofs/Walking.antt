@@ -5,13 +5,12 @@ use mathlib.Core.Bool.{true}
 use mathlib.Core.List.{List, [], _∷_, _++_, append-assoc}
 use native.Mathlib.Omega.{arith}
 use borrow.Author.Tests.{le-leb}
-use lib.ListN.{length, take, drop, length-append}
+use lib.ListN.{length, take, drop}
 use Rattle.fdr.specs.Number.{zeros}
-use Rattle.fdr.specs.Record.{sizeOf, eventSize}
+use Rattle.fdr.specs.Record.{sizeOf, eventSize, Typed, Bounded}
 use Rattle.fdr.specs.Grammar.{onto, follows, joins, agreedWith, joinedBy}
 use Rattle.fdr.specs.Encoded.{recordBytes}
-use Rattle.record_writer.specs.Writing.{eventOf, sizedBy, bytesFor}
-use Rattle.record_writer.specs.RoundTrip.{Typed}
+use Rattle.record_writer.specs.Writing.{eventOf}
 use Rattle.fdr.specs.Walk.{went, inFront, behind, threadTest, grammarTest, stepIn, next}
 use Rattle.fdr.specs.Trace.{item, done, traceFrom, finished}
 use Rattle.fdr.specs.declared.record.Record.{Record}
@@ -21,19 +20,19 @@ use Rattle.fdr.specs.declared.grammar.Stage.the-variants.{Between, WallTimeNext
 use Rattle.fdr.specs.declared.grammar.Threads.{Threads}
 use Rattle.fdr.specs.declared.grammar.Threads.the-variants.{One}
 use Rattle.fdr.specs.declared.walk.Position.{Position}
-use Rattle.fdr.proofs.Bounds.{Bounded}
 use Rattle.fdr.proofs.Records.{sized-some}
 use Rattle.fdr.proofs.Decoding.{Placed, found-at}
 use Rattle.record_writer.proofs.Writing.{length-record}
 use Rattle.fdr.proofs.Walking.{step-found, log-over, in-front, in-buffer}
 use Rattle.fdr.proofs.Tracing.{trace-next}
-use Rattle.record_writer.proofs.ReadBack.{Here, decoded-back, length-for}
+use Rattle.record_writer.proofs.ReadBack.{Here, decoded-back}
 use Rattle.log_writer.specs.declared.Writer.{Writer}
-use Rattle.log_writer.specs.Call.{opening, adding, closing, isOpen, stageAfter, takes, callBytes, stateAfter}
+use Rattle.log_writer.specs.Call.{opening, adding, closing, isOpen, stageAfter, takes, addedBytes, callBytes, stateAfter}
 use Rattle.log_writer.specs.Session.{Logged, eventless, loggedBy}
 use Rattle.log_writer.proofs.Putting.{here-first, here-second, here-whole}
 use Rattle.log_writer.proofs.Stages.{open-behind, open-end}
-use Rattle.log_writer.proofs.Taking.{Taken, taken, sized-follows, taken-behind, taken-joined}
+use Rattle.log_writer.proofs.Distance.{length-added}
+use Rattle.log_writer.proofs.Taking.{Taken, taken, taken-behind, taken-joined}
 use Rattle.demands.specs.Demand2.{loggedAt, loggedIn}
 
 -- From a position the walk comes to another, past these records with their events.
@@ -78,27 +77,24 @@ abbrev pub posOf : Writer → Threads → Position
 posOf w threads = record { place = w .place; end = w .end; size = w .size; stage = w .stage; threads = threads }
 
 module _ (s : List ℕ) (w : Writer) (threads : Threads) where
-  pub reads-added : (r : Record) (given : List ℕ) → w .end ≤ length s → takes (w .stage) r ≡ true → Bounded (sizedBy given r) → w .place + length (bytesFor r given) ≤ w .end → Here s (w .place) (bytesFor r given)
+  pub reads-added : (r : Record) (given : List ℕ) → w .end ≤ length s → takes (w .stage) r ≡ true → length (eventOf r given) ≡ eventSize r → Bounded r → w .place + length (addedBytes r given) ≤ w .end → Here s (w .place) (addedBytes r given)
       → ReadsTo s (posOf w threads) (posOf (stateAfter w (adding r given)) threads) (loggedBy w (adding r given))
-  unfolding bytesFor stateAfter
-  reads-added r given inLog t bound fits here =
-      let x : Record = sizedBy given r in
+  unfolding addedBytes stateAfter
+  reads-added r given inLog t own bound fits here =
       let p : Position = posOf w threads in
       let k : Taken (w .stage) r = taken (w .stage) r t in
-      let long : length (bytesFor r given) ≡ sizeOf x + eventSize x = length-for r given in
-      let size : length (recordBytes x) ≡ sizeOf x = length-record x in
-      let parts : length (bytesFor r given) ≡ length (recordBytes x) + length (eventOf r given) = length-append (recordBytes x) (eventOf r given) in
-      let place : w .place + sizeOf x + eventSize x ≡ w .place + length (bytesFor r given) = omega arith in
-      let event : take (eventSize x) (drop (w .place + sizeOf x) s) ≡ eventOf r given =
-      here-whole s (w .place + sizeOf x) (eventOf r given) (eventSize x)
-      (here-second s (w .place) (recordBytes x) (eventOf r given) here (w .place + sizeOf x) (omega arith))
-      (omega arith) (omega arith) in
-      subst (λ (l : List ℕ). ReadsTo s p (posOf (stateAfter w (adding r given)) threads) (record { it = x; event = l } ∷ [])) event
-      (reads s p (w .end) x (stageAfter (w .stage) r) threads (w .place + length (bytesFor r given))
+      let long : length (addedBytes r given) ≡ sizeOf r + length (eventOf r given) = length-added r given in
+      let place : w .place + sizeOf r + eventSize r ≡ w .place + length (addedBytes r given) = omega arith in
+      let event : take (eventSize r) (drop (w .place + sizeOf r) s) ≡ eventOf r given =
+      here-whole s (w .place + sizeOf r) (eventOf r given) (eventSize r)
+      (here-second s (w .place) (recordBytes r) (eventOf r given) here (w .place + sizeOf r) (omega (arith, length-record r)))
+      own (omega arith) in
+      subst (λ (l : List ℕ). ReadsTo s p (posOf (stateAfter w (adding r given)) threads) (record { it = r; event = l } ∷ [])) event
+      (reads s p (w .end) r (stageAfter (w .stage) r) threads (w .place + length (addedBytes r given))
       (in-buffer s p (open-behind (w .stage) (k .from))) inLog bound
-      (here-first s (w .place) (recordBytes x) (eventOf r given) here) (omega arith)
-      (sized-follows (w .stage) given r ∙ k .to) (taken-joined (w .stage) given r threads t)
-      (taken-behind (w .stage) given r (w .place + sizeOf x) (w .end) t ∙ place))
+      (here-first s (w .place) (recordBytes r) (eventOf r given) here) (omega arith)
+      (k .to) (taken-joined (w .stage) r threads t)
+      (taken-behind (w .stage) r (w .place + sizeOf r) (w .end) t ∙ place))
 
   pub reads-closed : w .end ≤ length s → isOpen (w .stage) ≡ true → w .place + 16 ≤ w .end → Here s (w .place) (callBytes w closing)
       → ReadsTo s (posOf w threads) (posOf (stateAfter w closing) threads) (loggedBy w closing)

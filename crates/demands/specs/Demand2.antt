@@ -49,7 +49,7 @@ WrittenLog = (frequency : ℕ) (constant nonstop : Bool) (size thread : ℕ) (ou
     → stateIn (length out) first calls .stage ≡ Between
     → ReadsAs (fixed frequency constant nonstop size) (acceptedIn (length out) first calls) (take (stateIn (length out) first calls .place) (outputIn first calls (outputStarted frequency constant nonstop size thread out)))
 
--- Both round trips: of a log, and of one record, "read and written again" and written and read (crate `fdr`).
+-- Both round trips: of a log, and of one record, "read and written again" and written and read (crate `record_writer`).
 pub record Demand2 : Type 0 where
   pub logs : WrittenLog
   pub records : RoundTrips

@@ -12,7 +12,6 @@ use Rattle.fdr.specs.Reading.{sizeTest, recordAt}
 use Rattle.fdr.specs.Walk.{stepIn, next}
 use Rattle.fdr.specs.Trace.{walked, traceFrom, traceWithin, finished}
 use Rattle.fdr.specs.Hidden.{hiddenIn, hidden}
-use Rattle.record_writer.specs.Writing.{bytesFor}
 use Rattle.fdr.specs.Encoded.{functionBytes, metadataBytes, recordBytes, headerBytes}
 use Rattle.fdr.specs.Sample.{sampleHeader, logBytes, sampleB, sampleWrongExit, sampleAbandoned, sampleBackward, sampleNested, sampleShortest, sampleTooShort, sampleClock, sampleArgument}
 use Rattle.replay.specs.Row.{rowOf, flat, tableOf}
@@ -22,7 +21,7 @@ use Rattle.replay.specs.Replay.{report, refusal, countsOf, replayed, meaning, r
 use Rattle.scrub.specs.Scrub.{scrubbed, ending, scrubbing, zeroedFrom, bytesAfter}
 use Rattle.log_writer.specs.Start.{fresh, put, started, outputStarted}
 use Rattle.log_writer.specs.State.{reachable, inBuffer, standing, sound}
-use Rattle.log_writer.specs.Call.{Call, opening, adding, closing, stageAfter, takes, callBytes, stateAfter, callTests, outputCalled, called as calledOn}
+use Rattle.log_writer.specs.Call.{Call, opening, adding, closing, stageAfter, takes, addedBytes, callBytes, stateAfter, callTests, outputCalled, called as calledOn}
 use Rattle.log_writer.specs.Session.{outputIn}
 use Rattle.fdr.specs.declared.record.Record.the-variants.{Function}
 use Rattle.compare.specs.Sample.{Comparisons, comparisons}
@@ -106,5 +105,5 @@ abbrev pub callsOfB : List Call
 callsOfB = opening 0 0 0 1000 ∷ adding (Function 0 5 10) [] ∷ adding (Function 1 5 30) [] ∷ closing ∷ []
 
 pub writtenB : outputIn (fresh 96 7) callsOfB (outputStarted 1000000000 true true 96 7 (replicate 128 7)) ≡ sampleB
-unfolding zeros bytesOf functionBytes metadataBytes recordBytes headerBytes sampleHeader logBytes sampleB bytesFor put started outputStarted reachable inBuffer standing sound stageAfter takes callBytes stateAfter callTests calledOn outputCalled outputIn
+unfolding zeros bytesOf functionBytes metadataBytes recordBytes headerBytes sampleHeader logBytes sampleB put started outputStarted reachable inBuffer standing sound stageAfter takes addedBytes callBytes stateAfter callTests calledOn outputCalled outputIn
 writtenB = refl

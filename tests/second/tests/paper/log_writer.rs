@@ -1,7 +1,7 @@
 //! The log writer: Paper 01, "Writer and comparison". Which states accepted
 //! calls return is searched through for small outputs.
 
-use second::log_writer::{add, close, is_returned, open, start};
+use second::log_writer::{add, close, is_body, is_returned, open, start};
 use second::log_writer::{Opening, Start, State, GREATEST_BUFFER as GREATEST};
 use second::record::Record;
 use second::walk::{walk, Outcome, Stage};
@@ -23,7 +23,6 @@ const OPENING: Opening = Opening {
     tsc: 1000,
 };
 
-const EVENT: Record = Record::CustomEvent { size: 0, tsc: 1 };
 const ARGUMENT: Record = Record::CallArgument { argument: 9 };
 
 fn begin(size: u64, thread: u16) -> Start {
@@ -38,6 +37,10 @@ fn begin(size: u64, thread: u16) -> Start {
 
 fn function(action: u8, id: u32, delta: u32) -> Record {
     Record::Function { action, id, delta }
+}
+
+fn event(size: u32) -> Record {
+    Record::CustomEvent { size, tsc: 1 }
 }
 
 /// What tells states of one size and thread apart.
@@ -61,9 +64,9 @@ fn answers(state: State, out: &mut [u8]) -> Vec<Result<State, u8>> {
         answers.push(add(state, &record, &[], out));
     }
     let longest = state.end.saturating_sub(state.place) as usize + 1;
-    let event = vec![0; longest];
+    let bytes = vec![0; longest];
     for length in 0..=longest {
-        answers.push(add(state, &EVENT, &event[..length], out));
+        answers.push(add(state, &event(length as u32), &bytes[..length], out));
     }
     answers
 }
@@ -245,9 +248,10 @@ fn the_order_of_tests() {
         add(opened, &function(3, LEAST_BAD_ID - 1, 0), &[], out),
         Err(15)
     );
-    assert_eq!(add(opened, &EVENT, &[], out), Err(15));
+    assert_eq!(add(opened, &event(0), &[], out), Err(15));
+    assert_eq!(add(opened, &event(1), &[], out), Err(7));
     assert_eq!(open(begun, &OPENING, &mut out[..95]), Err(15));
-    assert_eq!(add(opened, &EVENT, &[], &mut out[..95]), Err(7));
+    assert_eq!(add(opened, &event(0), &[], &mut out[..95]), Err(7));
     assert_eq!(*out, written);
     let closed = close(opened, out).unwrap();
     assert_eq!(open(closed, &OPENING, out), Err(15));
@@ -259,8 +263,8 @@ fn room_for_the_end() {
     let out = &mut [0xFF; 32 + 103];
     let state = start(&begin(103, 0), out).unwrap();
     let state = open(state, &OPENING, out).unwrap();
-    assert_eq!(add(state, &EVENT, &[5; 24], out), Err(15));
-    let full = add(state, &EVENT, &[5; 23], out).unwrap();
+    assert_eq!(add(state, &event(24), &[5; 24], out), Err(15));
+    let full = add(state, &event(23), &[5; 23], out).unwrap();
     assert_eq!(key(&full), (119, 135, Stage::Body as usize));
     assert!(records()
         .iter()
@@ -268,6 +272,43 @@ fn room_for_the_end() {
     close(full, out).unwrap();
     let (items, outcome) = walk(out);
     assert_eq!((items.len(), outcome), (5, Outcome::Done));
+}
+
+/// "An event, whose size is the length of the bytes given; anything else is 7."
+#[test]
+fn the_size_of_an_event() {
+    let out = &mut [0; 200];
+    let state = start(&begin(128, 0), out).unwrap();
+    let state = open(state, &OPENING, out).unwrap();
+    let before = *out;
+    for size in [0, 1, 3, 9, 258, u32::MAX] {
+        assert_eq!(add(state, &event(size), &[0xAA, 0xBB], out), Err(7));
+    }
+    assert_eq!(*out, before);
+    let behind = add(state, &event(2), &[0xAA, 0xBB], out).unwrap();
+    assert_eq!(key(&behind), (98, 160, Stage::Body as usize));
+    assert_eq!(out[80..85], [11, 2, 0, 0, 0]);
+    assert_eq!(out[96..98], [0xAA, 0xBB]);
+    // No size says 2^32 bytes.
+    assert!(!is_body(&event(0), 1 << 32) && !is_body(&event(u32::MAX), 1 << 32));
+    assert!(is_body(&event(u32::MAX), (1 << 32) - 1));
+}
+
+/// A record that is no event is taken whatever bytes come with it.
+#[test]
+fn bytes_beside_no_event() {
+    let out = &mut [0xFF; 200];
+    let state = start(&begin(128, 0), out).unwrap();
+    let state = open(state, &OPENING, out).unwrap();
+    for record in records() {
+        let (one, other) = (&mut out.clone(), &mut out.clone());
+        let alone = add(state, &record, &[], one);
+        assert_eq!(add(state, &record, &[0xAA; 300], other), alone);
+        assert_eq!(one, other);
+    }
+    let behind = add(state, &Record::TscWrap { tsc: 1 }, &[0xAA; 300], out).unwrap();
+    assert_eq!(key(&behind), (96, 160, Stage::Body as usize));
+    assert_eq!(out[96..], [0xFF; 104]);
 }
 
 #[test]
@@ -279,7 +320,7 @@ fn runs_of_arguments() {
         (function(0, 1, 0), false),
         (function(3, 1, 0), true),
         (ARGUMENT, true),
-        (EVENT, false),
+        (event(0), false),
         (function(3, 1, 0), true),
         (function(1, 1, 0), false),
         (function(2, 1, 0), false),
