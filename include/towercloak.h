@@ -14,6 +14,9 @@
 extern "C" {
 #endif
 
+/* The most bytes of a log. */
+enum { TOWERCLOAK_LONGEST = 16777216 };
+
 /* What towercloak_compare answers. */
 enum {
     TOWERCLOAK_LOWER = 0,
