@@ -16,6 +16,8 @@
 /* One byte more than the longest log, so that a longer one shows. */
 enum { ROOM = TOWERCLOAK_LONGEST + 1 };
 
+static const char no_regular_file[] = "is no regular file: its copy has to be named, with -o";
+
 int leave_no_core(void) {
     struct rlimit none = {0, 0};
     return prctl(PR_SET_DUMPABLE, 0) == 0 && setrlimit(RLIMIT_CORE, &none) == 0;
@@ -43,41 +45,49 @@ static int reads_whole(int file, struct log *log) {
     return 1;
 }
 
-/* Whether the file was as it is now all the time. The change's time tells of a write even where the writer sets the
- * file's own time back. */
+/* Whether the file was as it is now all the time. The time of its last change tells of a write even where the writer sets
+ * the file's own time back. */
 static int unchanged(const struct stat *before, const struct stat *after) {
     return before->st_size == after->st_size && before->st_ctim.tv_sec == after->st_ctim.tv_sec &&
            before->st_ctim.tv_nsec == after->st_ctim.tv_nsec;
 }
 
-/* Reads a file that is open. A part of one log and a part of another are not a log: event bytes of the one can lie where
- * the other has function ids. */
-static int read_open(int file, const char *name, struct log *log) {
+/* Reads from a file that is open. Gives null, or what is wrong. A part of one log and a part of another are not a log:
+ * bytes of an event of the one can lie where the other has function records. */
+static const char *read_open(int file, enum taken taken, struct log *log) {
     struct stat before, after;
     if (fstat(file, &before) != 0)
-        return failed(name, strerror(errno));
-    if (!S_ISREG(before.st_mode))
-        return failed(name, "is no regular file");
-    log->mode = before.st_mode & 0777;
+        return strerror(errno);
+    int regular = S_ISREG(before.st_mode);
+    if (!regular && taken == REGULAR)
+        return no_regular_file;
+    log->mode = regular ? before.st_mode & 0777 : S_IRUSR | S_IWUSR;
     log->bytes = room();
     if (log->bytes == NULL)
-        return failed(name, strerror(errno));
-    int read = reads_whole(file, log) && fstat(file, &after) == 0;
-    if (read && unchanged(&before, &after))
-        return DONE;
-    int status = failed(name, read ? "changed while it was read" : strerror(errno));
-    drop_log(log);
-    return status;
+        return strerror(errno);
+    const char *wrong = NULL;
+    if (!reads_whole(file, log) || fstat(file, &after) != 0)
+        wrong = strerror(errno);
+    else if (regular && !unchanged(&before, &after))
+        wrong = "changed while it was read";
+    if (wrong != NULL)
+        drop_log(log);
+    return wrong;
 }
 
-int read_log(const char *name, struct log *log) {
-    /* A pipe must not hold it up, and a link, as /dev/stdin, is another file's name. */
-    int file = open(name, O_RDONLY | O_NONBLOCK | O_NOFOLLOW | O_CLOEXEC);
+int read_log(const char *name, enum taken taken, struct log *log) {
+    int standard = strcmp(name, "-") == 0;
+    if (standard && taken == REGULAR)
+        return failed(name, no_regular_file);
+    /* A pipe must not hold it up where none is taken, and a link, as /dev/stdin, is another file's name. */
+    int flags = taken == REGULAR ? O_NONBLOCK | O_NOFOLLOW : 0;
+    int file = standard ? STDIN_FILENO : open(name, O_RDONLY | O_CLOEXEC | flags);
     if (file < 0)
-        return failed(name, errno == ELOOP ? "is no regular file" : strerror(errno));
-    int status = read_open(file, name, log);
-    close(file);
-    return status;
+        return failed(name, taken == REGULAR && errno == ELOOP ? no_regular_file : strerror(errno));
+    const char *wrong = read_open(file, taken, log);
+    if (!standard)
+        close(file);
+    return wrong == NULL ? DONE : failed(name, wrong);
 }
 
 void drop_log(struct log *log) {

@@ -124,3 +124,8 @@ int store(const char *name, const struct log *log) {
     close(folder);
     return why == 0 ? DONE : failed(name, strerror(why));
 }
+
+int store_out(const struct log *log) {
+    int why = written(STDOUT_FILENO, log);
+    return why == 0 ? DONE : failed("standard output", strerror(why));
+}

@@ -8,4 +8,7 @@
  * Gives DONE, or FAILED and tells why. */
 int store(const char *name, const struct log *log);
 
+/* Writes the bytes of the log to standard output. Gives DONE, or FAILED and tells why. */
+int store_out(const struct log *log);
+
 #endif

@@ -1,10 +1,11 @@
-"""Long logs for the tests of the program, made of the records of samples/make.py."""
+"""Logs for the tests of the program, made of the records of samples/make.py."""
 
+import struct
 import sys
+from collections import namedtuple
 from pathlib import Path
 
-ROOT = Path(__file__).resolve().parents[2]
-sys.path.insert(0, str(ROOT / "samples"))
+sys.path.insert(0, str(Path(__file__).resolve().parents[2] / "samples"))
 
 import make  # noqa: E402
 
@@ -38,3 +39,51 @@ def log(mib, first, text=TEXT):
 def scrubbed(mib, first):
     """What that log is once it is scrubbed: its hidden bytes are the events' alone, for all others are zero already."""
     return log(mib, first, bytes(len(TEXT)))
+
+
+# What a function did in a log, as its row has it.
+Row = namedtuple("Row", "entered closed backward abandoned ticks")
+
+
+class Story:
+    """A log that is told call by call, and the rows that it must give, in the order of first entry."""
+
+    def __init__(self, frequency=10**9, flags=3):
+        self.frequency, self.flags = frequency, flags
+        self.body, self.rows, self.records = [], {}, 4
+
+    def _did(self, function, *numbers):
+        row = self.rows.get(function, Row(0, 0, 0, 0, 0))
+        self.rows[function] = Row(*map(sum, zip(row, numbers)))
+
+    def _add(self, *records):
+        self.body += records
+        self.records += len(records)
+
+    def measured(self, function, ticks):
+        """A call of so many ticks."""
+        self._add(make.new_cpu_id(0, 0), make.entry(function, 0), make.new_cpu_id(0, ticks), make.exit(function, 0))
+        self._did(function, 1, 1, 0, 0, ticks)
+
+    def backward(self, function):
+        """A call that is left on a CPU whose clock is behind."""
+        self._add(make.new_cpu_id(0, 9), make.entry(function, 0), make.new_cpu_id(1, 8), make.exit(function, 0))
+        self._did(function, 1, 1, 1, 0, 0)
+
+    def abandoned(self, function, below, ticks):
+        """A call that is still open when one below it is closed, which takes so many ticks."""
+        self._add(make.new_cpu_id(0, 0), make.entry(below, 0), make.entry(function, 0), make.new_cpu_id(0, ticks),
+                  make.exit(below, 0))
+        self._did(below, 1, 1, 0, 0, ticks)
+        self._did(function, 1, 0, 0, 1, 0)
+
+    def left_open(self, function):
+        """A call that is never left. Nothing but such calls may follow."""
+        self._add(make.entry(function, 0))
+        self._did(function, 1, 0, 0, 0, 0)
+
+    def log(self):
+        text = b"".join(self.body)
+        size = 64 + len(text)
+        header = struct.pack("<HHIQQQ", 1, 1, self.flags, self.frequency, size, 0)
+        return header + make.lead() + text + make.end_of_buffer()
