@@ -85,7 +85,8 @@ static void print_text_side(const struct side *side, const struct report *report
     char time[SHOWN] = "-";
     if (side->calls > 0)
         show_time(time, side->ticks, report->frequency, report->constant_tsc);
-    printf("%12" PRIu64 " %*s%s", side->calls, 16 - columns_of(time), "", time);
+    int before = 16 - columns_of(time);
+    printf("%12" PRIu64 " %*s%s", side->calls, before > 0 ? before : 0, "", time);
 }
 
 static void print_text_verdict(const struct check *check) {

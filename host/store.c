@@ -19,9 +19,11 @@ static int written(int file, const struct log *log) {
     size_t done = 0;
     while (done < log->length) {
         ssize_t n = write(file, log->bytes + done, log->length - done);
-        if (n < 0 && errno != EINTR)
-            return errno;
-        done += n > 0 ? (size_t)n : 0;
+        if (n < 0 && errno == EINTR)
+            continue;
+        if (n <= 0)
+            return n < 0 ? errno : EIO;
+        done += (size_t)n;
     }
     return 0;
 }
