@@ -1,8 +1,9 @@
-/* Towercloak: scrubbing of XRay flight data recorder logs, and exact comparison of times measured in them.
+/* Towercloak: replay and scrubbing of XRay flight data recorder logs, and exact comparison of times measured in them.
  *
- * Link with libtowercloak.a (`rt staticlib towercloak` writes it to target/staticlib/).
+ * Link with libtowercloak.a or libtowercloak.so (`make host` writes both to target/lib/).
  * Every function may be handed any numbers and any bytes at all; it keeps no state and touches no memory of
- * the caller's but what it is lent.
+ * the caller's but what it is lent. What one call is lent must not overlap. A pointer to bytes or to a table may
+ * be null where the length beside it is 0.
  */
 #ifndef TOWERCLOAK_H
 #define TOWERCLOAK_H
@@ -13,6 +14,14 @@
 #ifdef __cplusplus
 extern "C" {
 #endif
+
+#define TOWERCLOAK_VERSION "1.0.0"
+
+enum {
+    TOWERCLOAK_LONGEST = 16777216, /* the most bytes of a log */
+    TOWERCLOAK_ROW = 6,            /* the numbers of a row of the table */
+    TOWERCLOAK_TABLE = 6144        /* the numbers of the table: 1,024 rows */
+};
 
 /* What towercloak_compare answers. */
 enum {
@@ -51,10 +60,38 @@ uint32_t towercloak_compare(uint64_t frequency_a, uint64_t constant_tsc_a, uint6
  *         the offset of the refused record's first byte, or of the buffer's end where no byte is left for
  *         a record, and 0 for 1 to 4.
  *
- * log may be null where length is 0; the answer is then 1. place must point to one number outside these
- * bytes, which is written whatever the answer.
+ * place must point to one number, which is written whatever the answer.
  */
 uint32_t towercloak_scrub(uint8_t *log, size_t length, uint64_t *place);
+
+/* Replays the log in these length bytes: what its call stack did, for each function, in the lent table.
+ *
+ * 0        Each function that was entered has a row of six numbers, in the order of first entry: its id, how
+ *          often it was entered, closed, closed backward (the clock at the exit was below that at the entry;
+ *          also counted as closed) and abandoned (a call below it was closed first), and the sum of its ticks.
+ *          Row i starts at table[i * TOWERCLOAK_ROW]. *rows, *buffers, *records and *open are the numbers of
+ *          rows, buffers, records and calls still open, and *place is 0.
+ * 1 to 14  It was refused by the rule of this number. The four counts are 0, and *place is where: as for the
+ *          scrubber, and 0 for 14.
+ *
+ * numbers is how many the table has: 14 is fewer than TOWERCLOAK_TABLE, and the table is then untouched. Else
+ * its first TOWERCLOAK_TABLE numbers are written, rows and then zeros, or zeros alone where the log is refused;
+ * those behind them are never touched.
+ */
+uint32_t towercloak_replay(const uint8_t *log, size_t length, uint64_t *table, size_t numbers,
+                           uint64_t *rows, uint64_t *buffers, uint64_t *records, uint64_t *open,
+                           uint64_t *place);
+
+/* Reads the header of the log in these length bytes.
+ *
+ * 0       *frequency is its cycle_frequency in Hz, *constant_tsc and *nonstop_tsc are its flags, 0 or 1, and
+ *         *buffer_size is the number of bytes of each buffer.
+ * 1 to 4  It was refused by the rule of this number, and all four are 0.
+ *
+ * 1 and 4 go by the whole log's length, so the log is handed over whole.
+ */
+uint32_t towercloak_header(const uint8_t *log, size_t length, uint64_t *frequency, uint64_t *constant_tsc,
+                           uint64_t *nonstop_tsc, uint64_t *buffer_size);
 
 #ifdef __cplusplus
 }

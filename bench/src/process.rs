@@ -10,6 +10,12 @@ use std::process::{Command, ExitCode};
 /// A program and its arguments.
 pub type Words = Vec<OsString>;
 
+/// The program of `host/` with a command, on a log.
+pub fn towercloak(command: &str, log: &Path) -> Words {
+    let program = concat!(env!("CARGO_MANIFEST_DIR"), "/../target/host/towercloak");
+    vec![program.into(), command.into(), log.into()]
+}
+
 /// `llvm-xray`, or the program that `LLVM_XRAY` names, on a log.
 pub fn llvm_xray(options: &[&str], log: &Path) -> Words {
     let program = env::var_os("LLVM_XRAY").unwrap_or("llvm-xray".into());

@@ -1,25 +1,27 @@
 //! Measures the scrubbing of logs: in memory the proved scrubber and the second
 //! program's, and as processes the program of `host/`, which writes a scrubbed
 //! copy, and `llvm-xray fdr-dump --verify`, which tests the log and prints it.
+//!
+//! `scrub`, or `scrub --before PROGRAM`, which only measures the program of
+//! `host/` beside another one that scrubs alike.
 
 use bench::log::{named, Kind, Log};
-use bench::measure::{clock, mean, passes, Input, Program};
-use bench::process::{self, end, llvm_xray, Words};
-use bench::table::{on_logs, Job, SECOND, TOWERCLOAK};
+use bench::measure::{clock, mean, passes, Cost, Input, Program};
+use bench::process::{self, end, llvm_xray, towercloak, Words};
+use bench::table::{on_logs, SECOND, TOWERCLOAK};
 use bench::Fallible;
 use harness::proved;
 use second::walk;
-use std::fs;
+use std::ffi::OsString;
 use std::path::{Path, PathBuf};
 use std::process::ExitCode;
+use std::{env, fs};
 
 /// The program of `host/` on a log, and the file that it writes.
 fn host(log: &Path) -> (Words, PathBuf) {
-    let program = concat!(env!("CARGO_MANIFEST_DIR"), "/../target/host/towercloak");
     let mut result = log.as_os_str().to_owned();
     result.push(".scrubbed");
-    let words = vec![program.into(), "scrub".into(), log.into()];
-    (words, result.into())
+    (towercloak("scrub", log), result.into())
 }
 
 fn fdr_dump(log: &Path) -> Words {
@@ -89,18 +91,20 @@ fn in_memory(log: &Log) -> Input<'_> {
     }
 }
 
+/// What one scrubbing takes, whose copy is taken away again.
+fn scrub_once(scrub: &Words, result: &Path) -> Fallible<Cost> {
+    let cost = process::cost(scrub)?;
+    fs::remove_file(result).map_err(|error| named(result, error))?;
+    Ok(cost)
+}
+
 fn as_process(log: &Log) -> Input<'_> {
     let (scrub, result) = host(&log.path);
-    let by_host = move || {
-        let cost = process::cost(&scrub)?;
-        fs::remove_file(&result).map_err(|error| named(&result, error))?;
-        Ok(cost)
-    };
     let dump = fdr_dump(&log.path);
     Input {
         bytes: log.bytes.len(),
         programs: vec![
-            Program::new(TOWERCLOAK, by_host),
+            Program::new(TOWERCLOAK, move || scrub_once(&scrub, &result)),
             Program::new("`llvm-xray fdr-dump --verify`", move || {
                 process::cost(&dump)
             }),
@@ -108,10 +112,36 @@ fn as_process(log: &Log) -> Input<'_> {
     }
 }
 
+/// The program of `host/` and another one.
+fn beside(log: &Log) -> Input<'_> {
+    let (scrub, result) = host(&log.path);
+    let mut other = scrub.clone();
+    other[0] = env::args_os().nth(2).expect("a program");
+    let copy = result.clone();
+    Input {
+        bytes: log.bytes.len(),
+        programs: vec![
+            Program::new(TOWERCLOAK, move || scrub_once(&scrub, &result)),
+            Program::new("before", move || scrub_once(&other, &copy)),
+        ],
+    }
+}
+
 fn main() -> ExitCode {
-    let jobs: [Job; 2] = [
-        ("scrub in memory", in_memory),
-        ("scrub as a process", as_process),
-    ];
-    end(on_logs(&[Kind::Plain, Kind::Mixed], check, &jobs))
+    let words: Vec<OsString> = env::args_os().skip(1).collect();
+    let kinds = [Kind::Plain, Kind::Mixed];
+    end(match &words[..] {
+        [] => on_logs(
+            &kinds,
+            check,
+            &[
+                ("scrub in memory", in_memory),
+                ("scrub as a process", as_process),
+            ],
+        ),
+        [mode, _] if mode == "--before" => {
+            on_logs(&kinds, check, &[("scrub as a process", beside)])
+        }
+        _ => Err("scrub [--before PROGRAM]".to_string()),
+    })
 }

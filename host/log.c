@@ -1,0 +1,96 @@
+#define _GNU_SOURCE
+#include "log.h"
+
+#include "tell.h"
+#include "towercloak.h"
+
+#include <errno.h>
+#include <fcntl.h>
+#include <string.h>
+#include <sys/mman.h>
+#include <sys/prctl.h>
+#include <sys/resource.h>
+#include <sys/stat.h>
+#include <unistd.h>
+
+/* One byte more than the longest log, so that a longer one shows. */
+enum { ROOM = TOWERCLOAK_LONGEST + 1 };
+
+static const char no_regular_file[] = "is no regular file: its copy has to be named, with -o";
+
+int leave_no_core(void) {
+    struct rlimit none = {0, 0};
+    return prctl(PR_SET_DUMPABLE, 0) == 0 && setrlimit(RLIMIT_CORE, &none) == 0;
+}
+
+/* Memory that follows no file. A page of it is there once it is written. */
+static uint8_t *room(void) {
+    uint8_t *bytes = mmap(NULL, ROOM, PROT_READ | PROT_WRITE, MAP_PRIVATE | MAP_ANONYMOUS, -1, 0);
+    if (bytes == MAP_FAILED)
+        return NULL;
+    madvise(bytes, ROOM, MADV_DONTDUMP);
+    return bytes;
+}
+
+static int reads_whole(int file, struct log *log) {
+    log->length = 0;
+    while (log->length < ROOM) {
+        ssize_t n = read(file, log->bytes + log->length, ROOM - log->length);
+        if (n < 0 && errno == EINTR)
+            continue;
+        if (n <= 0)
+            return n == 0;
+        log->length += (size_t)n;
+    }
+    return 1;
+}
+
+/* Whether the file was as it is now all the time. The time of its last change tells of a write even where the writer sets
+ * the file's own time back. */
+static int unchanged(const struct stat *before, const struct stat *after) {
+    return before->st_size == after->st_size && before->st_ctim.tv_sec == after->st_ctim.tv_sec &&
+           before->st_ctim.tv_nsec == after->st_ctim.tv_nsec;
+}
+
+/* Reads from a file that is open. Gives null, or what is wrong. A part of one log and a part of another are not a log:
+ * bytes of an event of the one can lie where the other has function records. */
+static const char *read_open(int file, enum taken taken, struct log *log) {
+    struct stat before, after;
+    if (fstat(file, &before) != 0)
+        return strerror(errno);
+    int regular = S_ISREG(before.st_mode);
+    if (!regular && taken == REGULAR)
+        return no_regular_file;
+    log->mode = regular ? before.st_mode & 0777 : S_IRUSR | S_IWUSR;
+    log->bytes = room();
+    if (log->bytes == NULL)
+        return strerror(errno);
+    const char *wrong = NULL;
+    if (!reads_whole(file, log) || fstat(file, &after) != 0)
+        wrong = strerror(errno);
+    else if (regular && !unchanged(&before, &after))
+        wrong = "changed while it was read";
+    if (wrong != NULL)
+        drop_log(log);
+    return wrong;
+}
+
+int read_log(const char *name, enum taken taken, struct log *log) {
+    int standard = strcmp(name, "-") == 0;
+    if (standard && taken == REGULAR)
+        return failed(name, no_regular_file);
+    /* A pipe must not hold it up where none is taken, and a link, as /dev/stdin, is another file's name. */
+    int flags = taken == REGULAR ? O_NONBLOCK | O_NOFOLLOW : 0;
+    int file = standard ? STDIN_FILENO : open(name, O_RDONLY | O_CLOEXEC | flags);
+    if (file < 0)
+        return failed(name, taken == REGULAR && errno == ELOOP ? no_regular_file : strerror(errno));
+    const char *wrong = read_open(file, taken, log);
+    if (!standard)
+        close(file);
+    return wrong == NULL ? DONE : failed(name, wrong);
+}
+
+void drop_log(struct log *log) {
+    munmap(log->bytes, ROOM);
+    log->bytes = NULL;
+}

@@ -1,0 +1,160 @@
+/* The replay and the header's fields from C: sample B of Paper 01, "Sample logs", and logs with a byte of it changed, so
+ * that they are answered otherwise or refused; and the edges of what may be lent.
+ */
+#include "checks.h"
+#include "towercloak.h"
+
+#include <string.h>
+
+/* Numbers behind the table, and bytes behind the log, which must stay as they are. */
+enum { BEHIND = 8, LONGEST = 224 };
+
+#define GUARD UINT64_C(0xA7A7A7A7A7A7A7A7)
+
+#define ZEROS_3 0, 0, 0
+#define ZEROS_5 ZEROS_3, 0, 0
+#define ZEROS_8 ZEROS_5, ZEROS_3
+#define ZEROS_13 ZEROS_8, ZEROS_5
+#define ZEROS_15 ZEROS_13, 0, 0
+
+/* A buffer of 96 bytes: NewBuffer of thread 7, WallTimeMarker, NewCPUId 0 at 1000, Entry and Exit of 5, EndOfBuffer and
+ * a rest of 16. */
+#define BUFFER \
+    0x01, 7, 0, ZEROS_13, 0x09, ZEROS_15, 0x05, 0, 0, 0xE8, 3, 0, 0, 0, 0, 0, 0, ZEROS_5, 0x50, 0, 0, 0, 10, 0, 0, 0, \
+        0x52, 0, 0, 0, 30, 0, 0, 0, 0x03, ZEROS_15, ZEROS_15, 0
+
+/* B, and its buffer once more: 1,000,000,000 Hz, both flags, a buffer_size of 96. */
+static const uint8_t twice[LONGEST] = {
+    1, 0, 1, 0, 3, 0, 0, 0, 0x00, 0xCA, 0x9A, 0x3B, 0, 0, 0, 0, 96, 0, 0, 0, 0, 0, 0, 0, ZEROS_8, BUFFER, BUFFER,
+};
+
+/* The first bytes of that log with one of them changed, and what is answered. */
+struct test {
+    const char *name;
+    size_t length, changed;
+    uint8_t byte;
+    size_t numbers;
+    uint32_t number;
+    uint64_t place, counts[4], row[6];
+};
+
+#define WHOLE TOWERCLOAK_TABLE
+#define NONE {0, 0, 0, 0}, {0, 0, 0, 0, 0, 0}
+
+static const struct test tests[] = {
+    {"sample B", 128, 0, 1, WHOLE, 0, 0, {1, 1, 6, 0}, {5, 1, 1, 0, 0, 30}},
+    {"two buffers", 224, 0, 1, WHOLE + 4, 0, 0, {1, 2, 12, 0}, {5, 2, 2, 0, 0, 60}},
+    {"a second Entry", 128, 88, 0x50, WHOLE, 0, 0, {1, 1, 6, 2}, {5, 2, 0, 0, 0, 0}},
+    {"a bare header", 32, 0, 1, WHOLE, 0, 0, {0, 0, 0, 0}, {0, 0, 0, 0, 0, 0}},
+    {"31 bytes", 31, 0, 1, WHOLE, 1, 0, NONE},
+    {"version 2", 128, 0, 2, WHOLE, 2, 0, NONE},
+    {"type 257", 128, 3, 1, WHOLE, 3, 0, NONE},
+    {"buffer_size 95", 128, 16, 95, WHOLE, 4, 0, NONE},
+    {"no byte left for EndOfBuffer", 96, 16, 64, WHOLE, 5, 96, NONE},
+    {"action 4", 128, 88, 0x58, WHOLE, 6, 88, NONE},
+    {"Entry where WallTimeMarker should be", 128, 48, 0, WHOLE, 7, 48, NONE},
+    {"another thread", 224, 129, 8, WHOLE, 8, 128, NONE},
+    {"Exit of 6", 128, 88, 0x62, WHOLE, 10, 88, NONE},
+    {"a table one number short", 128, 0, 1, WHOLE - 1, 14, 0, NONE},
+    {"no table, and a refused log", 31, 0, 1, 0, 14, 0, NONE},
+};
+
+static uint64_t table[WHOLE + BEHIND];
+
+/* Whether the lent numbers of the table hold the one row and zeros, or are untouched after 14, as those behind. */
+static int table_holds(const struct test *test)
+{
+    size_t written = test->number == 14 ? 0 : (size_t)TOWERCLOAK_TABLE;
+    for (size_t i = 0; i < sizeof table / sizeof table[0]; i++) {
+        uint64_t row = i < TOWERCLOAK_ROW ? test->row[i] : 0;
+        if (table[i] != (i < written ? row : GUARD))
+            return 0;
+    }
+    return 1;
+}
+
+static void replay(const struct test *test, const uint8_t *log)
+{
+    uint64_t counts[4] = {GUARD, GUARD, GUARD, GUARD}, place = GUARD;
+    for (size_t i = 0; i < sizeof table / sizeof table[0]; i++)
+        table[i] = GUARD;
+    uint32_t number = towercloak_replay(log, test->length, table, test->numbers, &counts[0], &counts[1], &counts[2],
+                                        &counts[3], &place);
+    expect_answer(test->name, "the answer", number, test->number);
+    expect(test->name, "the counts", memcmp(counts, test->counts, sizeof counts) == 0);
+    expect(test->name, "the place", place == test->place);
+    expect(test->name, "the table", table_holds(test));
+}
+
+/* The header's fields are told where none of 1 to 4 applies. */
+static void read_header(const struct test *test, const uint8_t *log)
+{
+    uint64_t fields[4] = {GUARD, GUARD, GUARD, GUARD};
+    uint32_t expected = test->number <= 4 ? test->number : test->length < 32 ? 1 : 0;
+    uint64_t expected_fields[4] = {1000000000, 1, 1, log[16]};
+    if (expected != 0)
+        memset(expected_fields, 0, sizeof expected_fields);
+    uint32_t number =
+        towercloak_header(log, test->length, &fields[0], &fields[1], &fields[2], &fields[3]);
+    expect(test->name, "the header's answer", number == expected);
+    expect(test->name, "the header's fields", memcmp(fields, expected_fields, sizeof fields) == 0);
+}
+
+static void run(const struct test *test)
+{
+    uint8_t log[LONGEST], before[LONGEST];
+    memcpy(log, twice, sizeof log);
+    log[test->changed] = test->byte;
+    memcpy(before, log, sizeof log);
+    replay(test, log);
+    read_header(test, log);
+    expect(test->name, "the log", memcmp(log, before, sizeof log) == 0);
+}
+
+/* Each flag alone, and other bits of the bitfield; the widest numbers. */
+static void read_flags(void)
+{
+    static const struct {
+        const char *name;
+        uint8_t bitfield;
+        uint64_t constant_tsc, nonstop_tsc;
+    } cases[] = {
+        {"no flag", 0, 0, 0},
+        {"constant_tsc", 1, 1, 0},
+        {"nonstop_tsc", 2, 0, 1},
+        {"other bits", 0xFC, 0, 0},
+        {"all bits", 0xFF, 1, 1},
+    };
+    uint8_t header[32] = {1, 0, 1, 0};
+    memset(header + 8, 0xFF, 16);
+    for (size_t i = 0; i < sizeof cases / sizeof cases[0]; i++) {
+        uint64_t frequency = 0, constant_tsc = GUARD, nonstop_tsc = GUARD, size = 0;
+        header[4] = cases[i].bitfield;
+        expect_answer(cases[i].name, "the answer",
+                      towercloak_header(header, sizeof header, &frequency, &constant_tsc, &nonstop_tsc, &size), 0);
+        expect(cases[i].name, "constant_tsc", constant_tsc == cases[i].constant_tsc);
+        expect(cases[i].name, "nonstop_tsc", nonstop_tsc == cases[i].nonstop_tsc);
+        expect(cases[i].name, "the other fields", frequency == UINT64_MAX && size == UINT64_MAX);
+    }
+}
+
+static void lend_nothing(void)
+{
+    uint64_t counts[4] = {GUARD, GUARD, GUARD, GUARD}, place = GUARD;
+    expect_answer("null for log and table", "the answer",
+                  towercloak_replay(NULL, 0, NULL, 0, &counts[0], &counts[1], &counts[2], &counts[3], &place), 14);
+    expect("null for log and table", "the numbers",
+           counts[0] == 0 && counts[1] == 0 && counts[2] == 0 && counts[3] == 0 && place == 0);
+    expect_answer("null for log", "the header's answer",
+                  towercloak_header(NULL, 0, &counts[0], &counts[1], &counts[2], &counts[3]), 1);
+}
+
+int main(void)
+{
+    static const uint32_t answers[] = {0, 1, 2, 3, 4, 5, 6, 7, 8, 10, 14};
+    for (size_t i = 0; i < sizeof tests / sizeof tests[0]; i++)
+        run(&tests[i]);
+    read_flags();
+    lend_nothing();
+    return conclude("replay", answers, sizeof answers / sizeof answers[0]);
+}
