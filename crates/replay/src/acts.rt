@@ -18,7 +18,7 @@ use crate::table::add;
 use crate::table::close;
 use crate::table::find_row;
 use fdr::record::Record;
-use fdr::refusal::Refusal;
+use refusal::Refusal;
 
 // A call is opened, in a row and at a clock, with so many rows then; the calls down to a depth are closed; or
 // the record is refused.

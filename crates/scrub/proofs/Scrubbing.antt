@@ -7,7 +7,7 @@ use native.Mathlib.Omega.{arith}
 use types.Run.{OneOf, miss}
 use denote.Enum.Declared.{tagOf}
 use Rattle.fdr.specs.Record.{visible}
-use Rattle.fdr.specs.Refusal.{numberOf}
+use Rattle.refusal.specs.Refusal.{numberOf}
 use Rattle.fdr.specs.Header.{passed, failed, openedWithin, longest}
 use Rattle.fdr.specs.Walk.{Stepping, over, went, stopped, steppingOf, next, startOf}
 use Rattle.fdr.specs.Trace.{Trace, item, done, refusedAt, traced, traceFrom, trace, finished}
@@ -18,7 +18,7 @@ use Rattle.fdr.specs.declared.walk.Position.{Position}
 use Rattle.fdr.specs.declared.walk.Step.{Step}
 use Rattle.fdr.specs.declared.walk.Step.the-variants.{Over, Found, Refused}
 use Rattle.fdr.proofs.walk.Step.{the-type as the-steps}
-use Rattle.fdr.proofs.Cases.{clash}
+use Rattle.refusal.proofs.Cases.{clash}
 use Rattle.fdr.proofs.Records.{visible-size}
 use Rattle.fdr.proofs.Tracing.{forward, trace-next, trace-passed, trace-failed}
 use Rattle.fdr.proofs.Agreement.{SameFrom, trace-agree}

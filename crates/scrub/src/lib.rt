@@ -8,9 +8,9 @@ ghost use Rattle.scrub.specs.View.{endOf};
 use fdr::header::Header;
 use fdr::header::Opened;
 use fdr::record::Record;
-use fdr::refusal::Refusal;
 use fdr::walk::Position;
 use fdr::walk::Step;
+use refusal::Refusal;
 use wipe::wipe;
 use wipe::zero;
 
