@@ -6,7 +6,7 @@ ghost use Prim.Native.Nat.{_≤_};
 ghost use lib.ListN.{length};
 ghost use lib.Dec.{eqb};
 ghost use Rattle.replay.specs.Row.{mostRows, cells};
-ghost use Rattle.replay.specs.View.{RowsBelow, Nearest, Counted, Abandoned, Enterable, Entered, Open, Left, Ready, Called};
+ghost use Rattle.replay.specs.Private.{RowsBelow, Nearest, Counted, Abandoned, Enterable, Entered, Open, Left, Ready, Called};
 use crate::calls::DEEPEST;
 use crate::row::ABANDONED;
 use crate::row::ENTERED;

@@ -23,7 +23,7 @@ use Rattle.fdr.proofs.Records.{visible-size}
 use Rattle.fdr.proofs.Tracing.{forward, trace-next, trace-passed, trace-failed}
 use Rattle.fdr.proofs.Agreement.{SameFrom, trace-agree}
 use Rattle.scrub.specs.Scrub.{scrubbed, refused, ending, scrubbing, zeroed, bytesAfter}
-use Rattle.scrub.specs.View.{endOf}
+use Rattle.scrub.specs.Private.{endOf}
 use Rattle.scrub.proofs.Zeroing.{length-zeroed, zeroed-none, zeroed-or, zeroed-behind}
 
 pub not-refused : (x : Step) → OneOf (0 ∷ 1 ∷ []) (tagOf the-steps x) → scrubbed ≡ endOf (steppingOf x)
