@@ -6,9 +6,9 @@ use mir.Val.{boolByte}
 use mathlib.Core.Path.{_≡_, sym, _∙_}
 use native.Mathlib.Omega.{arith}
 use borrow.Author.Tests.{lt-ltb, le-ltb}
-use Rattle.fdr.proofs.Cases.{by-lt}
+use Rattle.refusal.proofs.Cases.{by-lt}
 use Rattle.compare.specs.Compare.{lower, equal, higher, byNumbers}
-use Rattle.compare.specs.Wide.{rankOf}
+use Rattle.compare.specs.Private.{rankOf}
 use Rattle.compare.proofs.Orders.{is-lower, is-equal, is-higher}
 use Rattle.compare.proofs.Products.{high-first}
 

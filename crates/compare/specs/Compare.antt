@@ -3,8 +3,8 @@ use Prim.Native.Nat.{ℕ, _*_}
 use mathlib.Core.Bool.{Bool, true, false, _||_}
 use mathlib.Core.List.{List, [], _∷_}
 use lib.Dec.{eqb, leb, ltb}
-use Rattle.fdr.specs.Refusal.{numberOf}
-use Rattle.fdr.specs.Tests.{Test, test, firstOf}
+use Rattle.refusal.specs.Refusal.{numberOf}
+use Rattle.refusal.specs.Tests.{Test, test, firstOf}
 use Rattle.compare.specs.declared.Side.{Side}
 use Rattle.compare.specs.declared.Compared.{Compared}
 use Rattle.compare.specs.declared.Compared.the-variants.{Lower, Equal, Higher, Refused}

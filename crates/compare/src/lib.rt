@@ -1,7 +1,7 @@
 // The exact comparison of two measured times: ticks over frequency, by whole numbers.
 ghost use mathlib.Core.Path.{_≡_};
 ghost use Rattle.compare.specs.Compare.{comparisonOf, compared};
-use fdr::refusal::Refusal;
+use refusal::Refusal;
 use wide::order;
 use wide::product;
 

@@ -1,7 +1,7 @@
 // Products of two words, where no type is wide enough.
 ghost use mathlib.Core.Path.{_≡_};
 ghost use Prim.Native.Nat.{_*_, _/_, _%_, _^_};
-ghost use Rattle.compare.specs.Wide.{valueOf, rankOf};
+ghost use Rattle.compare.specs.Private.{valueOf, rankOf};
 
 const HALF: u64 = 4294967296;
 

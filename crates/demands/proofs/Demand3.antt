@@ -10,7 +10,7 @@ use lib.ListN.{length, getD}
 use Rattle.fdr.specs.Number.{byteAt}
 use Rattle.fdr.specs.Trace.{wellFormed, trace}
 use Rattle.fdr.specs.Hidden.{hidden, Overwritten}
-use Rattle.fdr.proofs.Cases.{by-lt}
+use Rattle.refusal.proofs.Cases.{by-lt}
 use Rattle.fdr.proofs.Overwriting.{same-form, same-hidden}
 use Rattle.replay.specs.Row.{cells}
 use Rattle.replay.specs.Replay.{Verdict, refusal, answer}

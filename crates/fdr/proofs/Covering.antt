@@ -11,7 +11,7 @@ use Rattle.fdr.specs.Walk.{Stepping, over, went, stopped, next, startOf}
 use Rattle.fdr.specs.Trace.{Trace, refusedAt, traced, walked, traceFrom, traceWithin, trace, finished, wellFormed}
 use Rattle.fdr.specs.Hidden.{hiddenIn, hidden, visibleIn}
 use Rattle.fdr.specs.declared.walk.Position.{Position}
-use Rattle.fdr.proofs.Cases.{by-lt}
+use Rattle.refusal.proofs.Cases.{by-lt}
 use Rattle.fdr.proofs.Records.{visible-size}
 use Rattle.fdr.proofs.Tracing.{over-end, forward}
 use Rattle.fdr.proofs.Hiding.{before-range, in-range, behind-range, shown-of, by-later, hidden-later}

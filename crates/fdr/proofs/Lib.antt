@@ -1,4 +1,3 @@
-pub mod Cases
 pub mod Refusals
 pub mod Numbers
 pub mod Records

@@ -21,7 +21,7 @@ use Rattle.fdr.specs.declared.record.Record.the-variants.{Function, NewB
 use Rattle.fdr.specs.declared.grammar.Stage.{Stage}
 use Rattle.fdr.specs.declared.grammar.Stage.the-variants.{Between, WallTimeNext, CpuNext, Body, Arguments}
 use Rattle.fdr.specs.declared.walk.Position.{Position}
-use Rattle.fdr.proofs.Cases.{clash}
+use Rattle.refusal.proofs.Cases.{clash}
 use Rattle.fdr.proofs.Numbers.{Agree, number-agree}
 use Rattle.fdr.proofs.Records.{visible-size}
 use Rattle.fdr.proofs.Decoding.{Placed, placed, found-at}

@@ -1,10 +1,8 @@
--- The refusals' numbers. Assumes nothing.
-use Prim.Native.Nat.{_≤_}
+-- The numbers by which the grammar and the threads refuse. Assumes nothing.
 use mathlib.Core.Path.{_≡_, refl}
 use mathlib.Core.Bool.{Bool, true, false}
-use lib.Dec.{eqb, ltb, lit≤}
+use lib.Dec.{eqb, ltb}
 use Rattle.fdr.specs.Record.{kindOf}
-use Rattle.fdr.specs.Refusal.{numberOf}
 use Rattle.fdr.specs.Grammar.{Following, onto, forbidden, mayNot, inBody, follows, Joining, joins, another, joinedBy}
 use Rattle.fdr.specs.declared.record.Record.{Record}
 use Rattle.fdr.specs.declared.record.Record.the-variants.{Function, NewBuffer, EndOfBuffer, NewCpuId, TscWrap, WallTime, CustomEvent, CallArgument}
@@ -12,28 +10,6 @@ use Rattle.fdr.specs.declared.grammar.Stage.{Stage}
 use Rattle.fdr.specs.declared.grammar.Stage.the-variants.{Between, WallTimeNext, CpuNext, Body, Arguments}
 use Rattle.fdr.specs.declared.grammar.Threads.{Threads}
 use Rattle.fdr.specs.declared.grammar.Threads.the-variants.{Unseen, One}
-use Rattle.fdr.specs.declared.refusal.Refusal.{Refusal}
-use Rattle.fdr.specs.declared.refusal.Refusal.the-variants.{LogLength, Version, LogType, BufferSize, PastEnd, Unknown, Grammar, Thread, Clock, NoOpenCall, Depth, FunctionCount, Ticks, ShortTable, NoRoom, OutOfRange, NoUnit, NoMeasuredCall}
-
-pub number-most : (x : Refusal) → numberOf x ≤ 18
-number-most LogLength = lit≤ tt
-number-most Version = lit≤ tt
-number-most LogType = lit≤ tt
-number-most BufferSize = lit≤ tt
-number-most PastEnd = lit≤ tt
-number-most Unknown = lit≤ tt
-number-most Grammar = lit≤ tt
-number-most Thread = lit≤ tt
-number-most Clock = lit≤ tt
-number-most NoOpenCall = lit≤ tt
-number-most Depth = lit≤ tt
-number-most FunctionCount = lit≤ tt
-number-most Ticks = lit≤ tt
-number-most ShortTable = lit≤ tt
-number-most NoRoom = lit≤ tt
-number-most OutOfRange = lit≤ tt
-number-most NoUnit = lit≤ tt
-number-most NoMeasuredCall = lit≤ tt
 
 -- The grammar refuses by 7 alone.
 abbrev pub BySeven : Following → Type 0

@@ -1,9 +1,7 @@
 pub mod Number
 pub mod Bits
-pub mod Refusal
-pub mod Tests
 pub mod Record
-pub mod Table
+pub mod Fields
 pub mod Decoded
 pub mod Header
 pub mod Reading

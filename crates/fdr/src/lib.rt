@@ -8,5 +8,4 @@ pub mod header;
 mod number;
 pub mod reader;
 pub mod record;
-pub mod refusal;
 pub mod walk;

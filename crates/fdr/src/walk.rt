@@ -15,7 +15,7 @@ use crate::header::Header;
 use crate::reader::Read;
 use crate::reader::record_at;
 use crate::record::Record;
-use crate::refusal::Refusal;
+use refusal::Refusal;
 
 // Where the walk stands: a place of the log, the end of the buffer that it lies in (of no meaning in
 // front of a buffer), the size of each buffer, and what the records so far allow.

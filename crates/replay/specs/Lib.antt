@@ -2,4 +2,4 @@ pub mod Row
 pub mod Stack
 pub mod Step
 pub mod Replay
-pub mod View
+pub mod Private

@@ -1,7 +1,7 @@
 // The call stack and the clock, one struct by value: each record's method takes it and hands back the next.
 ghost use mathlib.Core.Path.{_≡_};
 ghost use Prim.Native.Nat.{_+_, _^_, _<_};
-ghost use Rattle.replay.specs.View.{Fresh, pushed, popped, stayed, taken};
+ghost use Rattle.replay.specs.Private.{Fresh, pushed, popped, stayed, taken};
 use fdr::record::Record;
 
 pub const DEEPEST: usize = 256;

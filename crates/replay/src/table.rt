@@ -4,7 +4,7 @@ ghost use mathlib.Core.List.{[]};
 ghost use Prim.Native.Nat.{_+_, _*_, _^_, _<_, _≤_};
 ghost use lib.ListN.{length, getD, set};
 ghost use Rattle.replay.specs.Row.{width, cells, tableOf, rowOf};
-ghost use Rattle.replay.specs.View.{rowsIn, Closable, Closed};
+ghost use Rattle.replay.specs.Private.{rowsIn, Closable, Closed};
 use crate::row::BACKWARD;
 use crate::row::CELLS;
 use crate::row::CLOSED;

@@ -1,2 +1,2 @@
 pub mod Scrub
-pub mod View
+pub mod Private

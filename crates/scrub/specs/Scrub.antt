@@ -2,7 +2,7 @@
 use Prim.Native.Nat.{ℕ, _+_}
 use mathlib.Core.Bool.{Bool, true, false}
 use mathlib.Core.List.{List, [], _∷_}
-use Rattle.fdr.specs.Refusal.{numberOf}
+use Rattle.refusal.specs.Refusal.{numberOf}
 use Rattle.fdr.specs.Trace.{Trace, item, done, refusedAt, trace, wellFormed}
 use Rattle.fdr.specs.Hidden.{hidden}
 use Rattle.scrub.specs.declared.Answer.{Answer}

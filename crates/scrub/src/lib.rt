@@ -4,13 +4,13 @@ ghost use Rattle.fdr.specs.Header.{passed, openedWithin, longest};
 ghost use Rattle.fdr.specs.Trace.{traceFrom};
 ghost use Rattle.fdr.specs.Walk.{steppingOf};
 ghost use Rattle.scrub.specs.Scrub.{scrubbingOf, ending, scrubbing, bytesAfter};
-ghost use Rattle.scrub.specs.View.{endOf};
+ghost use Rattle.scrub.specs.Private.{endOf};
 use fdr::header::Header;
 use fdr::header::Opened;
 use fdr::record::Record;
-use fdr::refusal::Refusal;
 use fdr::walk::Position;
 use fdr::walk::Step;
+use refusal::Refusal;
 use wipe::wipe;
 use wipe::zero;
 

@@ -1,7 +1,7 @@
 -- `compare::compare` meets its contract: each answer by the law of the test that applies. Assumes nothing.
 use Rattle.compare.proofs.Orders.{frequency-a, constant-a, frequency-b, constant-b, calls-a, calls-b, by-products}
 use Rattle.compare.proofs.Ranks.{lower-rank, equal-rank, higher-rank}
-use Rattle.compare.specs.Wide.{valueOf, rankOf}
+use Rattle.compare.specs.Private.{valueOf, rankOf}
 use Prim.Native.Nat.{ℕ, _*_}
 use mathlib.Core.Path.{sym, ap, _∙_}
 use borrow.Author.Needs.{needs}

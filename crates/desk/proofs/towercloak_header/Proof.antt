@@ -1,6 +1,6 @@
 -- `desk::towercloak_header` meets its contract: answer by answer. Assumes nothing.
 use Rattle.desk.specs.Interface.{headerNumber, headerFields}
-use Rattle.fdr.proofs.Refusals.{number-most}
+use Rattle.refusal.proofs.Refusals.{number-most}
 use Rattle.fdr.specs.Header.{openingOf}
 use native.Mathlib.Omega.{arith}
 use mathlib.Core.Path.{sym, ap, _∙_}

@@ -1,6 +1,6 @@
 -- `desk::towercloak_replay` meets its contract: answer by answer. Assumes nothing.
 use Rattle.desk.specs.Interface.{replayNumber, replayPlace}
-use Rattle.fdr.proofs.Refusals.{number-most}
+use Rattle.refusal.proofs.Refusals.{number-most}
 use Rattle.replay.specs.Replay.{verdictOf, countsOf}
 use native.Mathlib.Omega.{arith}
 use mathlib.Core.Path.{sym, ap, _∙_}

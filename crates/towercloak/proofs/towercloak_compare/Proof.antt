@@ -1,6 +1,6 @@
 -- `towercloak::towercloak_compare` meets its contract: answer by answer. Assumes nothing.
 use Rattle.towercloak.specs.Interface.{orderNumber}
-use Rattle.fdr.proofs.Refusals.{number-most}
+use Rattle.refusal.proofs.Refusals.{number-most}
 use Rattle.compare.specs.Compare.{comparisonOf}
 use native.Mathlib.Omega.{arith}
 use mathlib.Core.Path.{sym, ap, _∙_}

@@ -1,6 +1,6 @@
 -- `towercloak::towercloak_scrub` meets its contract: answer by answer. Assumes nothing.
 use Rattle.towercloak.specs.Interface.{scrubNumber, scrubPlace}
-use Rattle.fdr.proofs.Refusals.{number-most}
+use Rattle.refusal.proofs.Refusals.{number-most}
 use Rattle.scrub.specs.Scrub.{scrubbingOf}
 use native.Mathlib.Omega.{arith}
 use mathlib.Core.Path.{sym, ap, _∙_}

@@ -1,6 +1,6 @@
 -- `compare::wide::order` meets its contract: the first word decides, then the second. Assumes nothing.
 use Rattle.compare.proofs.Ranks.{second-word, first-word}
-use Rattle.compare.specs.Wide.{valueOf}
+use Rattle.compare.specs.Private.{valueOf}
 use native.Mathlib.Omega.{arith}
 use mathlib.Core.Path.{sym, _∙_}
 use borrow.Author.Needs.{needs}

@@ -2,7 +2,7 @@
 use Prim.Native.Nat.{ℕ, _+_, _*_, _/_, _^_}
 use mathlib.Core.Path.{ap, _∙_}
 use native.Mathlib.Nat.{div-add-mod'}
-use Rattle.compare.specs.Wide.{valueOf}
+use Rattle.compare.specs.Private.{valueOf}
 use borrow.Author.Needs.{needs}
 use Rattle.compare.proofs.wide.product.Statement.{statement}
 use Rattle.compare.proofs.wide.product.Tie as tie

@@ -1,6 +1,6 @@
 -- `fdr::walk::unread` meets its contract: only a refusal reads as one. Assumes nothing.
 use borrow.Author.Needs.{needs}
-use Rattle.fdr.proofs.Cases.{clash}
+use Rattle.refusal.proofs.Cases.{clash}
 use Rattle.fdr.specs.Reading.{readingOf}
 use Rattle.fdr.specs.Walk.{steppingOf}
 use mathlib.Core.Path.{sym, ap, _∙_}

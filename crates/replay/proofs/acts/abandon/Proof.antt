@@ -5,7 +5,7 @@ use native.Mathlib.Omega.{arith}
 use Prim.Native.Nat.{ℕ, _-_, _+_, _*_, _<_, _≤_, _^_}
 use lib.ListN.{length, getD, length-set}
 use Rattle.replay.specs.Row.{width, abandoned}
-use Rattle.replay.specs.View.{Held, Open}
+use Rattle.replay.specs.Private.{Held, Open}
 use Rattle.replay.proofs.Holding.{in-rows, room-abandoned}
 use Rattle.replay.proofs.Leaving.{Passing, passing-start, passing-turn, passing-end}
 use Rattle.replay.proofs.acts.abandon.Statement.{statement}

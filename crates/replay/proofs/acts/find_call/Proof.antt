@@ -5,7 +5,7 @@ use mathlib.Core.Path.{_≡_, refl, ap, _∙_}
 use Prim.Native.Nat.{ℕ, _-_, _≤_}
 use mathlib.Core.List.{List}
 use Rattle.replay.specs.Stack.{nearest}
-use Rattle.replay.specs.View.{rowsIn, callsIn, RowsBelow}
+use Rattle.replay.specs.Private.{rowsIn, callsIn, RowsBelow}
 use Rattle.replay.proofs.acts.find_call.Statement.{statement}
 use Rattle.replay.proofs.acts.find_call.Tie as tie
 

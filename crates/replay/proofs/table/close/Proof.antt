@@ -7,7 +7,7 @@ use Prim.Native.Nat.{ℕ, _+_, _-_, _*_, _<_, _≤_, _^_}
 use lib.ListN.{length, getD, set}
 use lib.Seq.{getD-set-same, getD-set-other}
 use Rattle.replay.specs.Row.{width, closed, backward, ticks}
-use Rattle.replay.specs.View.{Shut}
+use Rattle.replay.specs.Private.{Shut}
 use Rattle.replay.proofs.Leaving.{once, length-once, twice, shut-backward, shut-measured, shut-over}
 use borrow.Author.Needs.{needs}
 use Rattle.replay.proofs.table.close.Statement.{statement}

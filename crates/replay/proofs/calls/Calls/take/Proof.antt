@@ -1,6 +1,6 @@
 -- `replay::calls::Calls::take` meets its contract: record by record. Assumes nothing.
 use mathlib.Core.Path.{sym, ap, _∙_}
-use Rattle.replay.specs.View.{taken}
+use Rattle.replay.specs.Private.{taken}
 use Rattle.replay.proofs.Stepping.{taken-idle}
 use borrow.Author.Needs.{needs}
 use Rattle.replay.proofs.calls.Calls.take.Statement.{statement}

@@ -1,9 +1,9 @@
--- `fdr::refusal::Refusal::number` meets its contract: each case has its number. Assumes nothing.
+-- `refusal::Refusal::number` meets its contract: each case has its number. Assumes nothing.
 use mathlib.Core.Path.{sym, ap}
 use borrow.Author.Needs.{needs}
-use Rattle.fdr.specs.Refusal.{numberOf}
-use Rattle.fdr.proofs.refusal.Refusal.number.Statement.{statement}
-use Rattle.fdr.proofs.refusal.Refusal.number.Tie as tie
+use Rattle.refusal.specs.Refusal.{numberOf}
+use Rattle.refusal.proofs.Refusal.number.Statement.{statement}
+use Rattle.refusal.proofs.Refusal.number.Tie as tie
 
 enum-told : tie.Need-enum-told
 enum-told c = search needs

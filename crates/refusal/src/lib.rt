@@ -1,6 +1,6 @@
 // The numbered refusals.
 ghost use mathlib.Core.Path.{_≡_};
-ghost use Rattle.fdr.specs.Refusal.{numberOf};
+ghost use Rattle.refusal.specs.Refusal.{numberOf};
 
 pub enum Refusal {
     LogLength,

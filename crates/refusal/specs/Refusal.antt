@@ -1,7 +1,7 @@
 -- The numbered refusals (paper 01, "The numbered refusals"). Assumes nothing.
 use Prim.Native.Nat.{ℕ}
-use Rattle.fdr.specs.declared.refusal.Refusal.{Refusal}
-use Rattle.fdr.specs.declared.refusal.Refusal.the-variants.{LogLength, Version, LogType, BufferSize, PastEnd, Unknown, Grammar, Thread, Clock, NoOpenCall, Depth, FunctionCount, Ticks, ShortTable, NoRoom, OutOfRange, NoUnit, NoMeasuredCall}
+use Rattle.refusal.specs.declared.Refusal.{Refusal}
+use Rattle.refusal.specs.declared.Refusal.the-variants.{LogLength, Version, LogType, BufferSize, PastEnd, Unknown, Grammar, Thread, Clock, NoOpenCall, Depth, FunctionCount, Ticks, ShortTable, NoRoom, OutOfRange, NoUnit, NoMeasuredCall}
 
 -- The paper's number of each.
 abbrev pub numberOf : Refusal → ℕ
