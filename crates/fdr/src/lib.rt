@@ -1,7 +1,7 @@
 // The format of an XRay flight data recorder log: its records, its header, the record reader, and the
 // walk from record to record. What each function answers is defined in specs/, on every input.
 pub mod ahead;
-pub mod bits;
+mod bits;
 mod decode;
 pub mod grammar;
 pub mod header;
