@@ -7,6 +7,7 @@
 
 #include <inttypes.h>
 #include <stdio.h>
+#include <string.h>
 
 static const char help[] =
     "usage: towercloak check [--within PERCENT] [--format=text|csv|json] LOG REFERENCE\n"
@@ -149,6 +150,8 @@ static int run(const struct options *options, char **words, int count) {
     static void (*const print[])(const struct check *) = {[TEXT] = print_text, [CSV] = print_csv, [JSON] = print_json};
     static struct check check;
     (void)count;
+    if (strcmp(words[0], "-") == 0 && strcmp(words[1], "-") == 0)
+        return misused(&check_command, "standard input holds one log");
     int log = report_on(words[0], &check.log), reference = report_on(words[1], &check.reference);
     if (log != DONE || reference != DONE)
         return log > reference ? log : reference;

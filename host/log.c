@@ -53,6 +53,23 @@ static int unchanged(const struct stat *before, const struct stat *after) {
            before->st_ctim.tv_nsec == after->st_ctim.tv_nsec;
 }
 
+/* Whether a second reading, from where the first one started, finds the same bytes. It tells of what is stored through a
+ * mapping, which can leave the file's times as they were. */
+static int reads_again(int file, off_t start, const struct log *log) {
+    uint8_t part[1 << 16];
+    size_t done = 0;
+    while (done < log->length) {
+        size_t left = log->length - done;
+        ssize_t n = pread(file, part, left < sizeof part ? left : sizeof part, start + (off_t)done);
+        if (n < 0 && errno == EINTR)
+            continue;
+        if (n <= 0 || memcmp(part, log->bytes + done, (size_t)n) != 0)
+            return 0;
+        done += (size_t)n;
+    }
+    return 1;
+}
+
 /* Reads from a file that is open. Gives null, or what is wrong. A part of one log and a part of another are not a log:
  * bytes of an event of the one can lie where the other has function records. */
 static const char *read_open(int file, enum taken taken, struct log *log) {
@@ -67,9 +84,10 @@ static const char *read_open(int file, enum taken taken, struct log *log) {
     if (log->bytes == NULL)
         return strerror(errno);
     const char *wrong = NULL;
+    off_t start = regular ? lseek(file, 0, SEEK_CUR) : 0;
     if (!reads_whole(file, log) || fstat(file, &after) != 0)
         wrong = strerror(errno);
-    else if (regular && !unchanged(&before, &after))
+    else if (regular && !(unchanged(&before, &after) && reads_again(file, start, log)))
         wrong = "changed while it was read";
     if (wrong != NULL)
         drop_log(log);

@@ -35,13 +35,12 @@ static const char help[] =
 static const struct command *const commands[] = {&check_command, &scrub_command, &replay_command, &compare_command};
 
 /* A file that is opened later must not take the number of a standard one that is closed, and get what is told. */
-static void hold_standard_files(void) {
+static int hold_standard_files(void) {
     int file;
     do
         file = open("/dev/null", O_RDONLY);
     while (file >= 0 && file <= STDERR_FILENO);
-    if (file >= 0)
-        close(file);
+    return file >= 0 && close(file) == 0;
 }
 
 static int run(int count, char **words) {
@@ -62,7 +61,8 @@ static int run(int count, char **words) {
 }
 
 int main(int count, char **words) {
-    hold_standard_files();
+    if (!hold_standard_files())
+        return FAILED;
     setlocale(LC_CTYPE, "");
     setvbuf(stderr, NULL, _IOLBF, BUFSIZ);
     /* A write past a limit on file sizes is to fail, and not to end the program. */
@@ -70,7 +70,8 @@ int main(int count, char **words) {
     if (!leave_no_core())
         return failed("core files", strerror(errno));
     int status = run(count, words);
-    if (fflush(stdout) != 0 || ferror(stdout))
+    int lost = ferror(stdout);
+    if (fclose(stdout) != 0 || lost)
         return failed("standard output", "can't be written");
     return status;
 }

@@ -1,4 +1,5 @@
 /* The command scrub. */
+#define _POSIX_C_SOURCE 200809L
 #include "command.h"
 #include "log.h"
 #include "store.h"
@@ -6,6 +7,7 @@
 #include "towercloak.h"
 
 #include <errno.h>
+#include <signal.h>
 #include <stdlib.h>
 #include <string.h>
 
@@ -54,6 +56,8 @@ static int run(const struct options *options, char **words, int count) {
     int worst = DONE;
     if (options->out != NULL && count > 1)
         return misused(&scrub_command, "-o names the copy of one log");
+    /* Where nobody reads what is told, the other logs are scrubbed all the same. */
+    signal(SIGPIPE, SIG_IGN);
     for (int i = 0; i < count; i++) {
         struct log log;
         int status = read_log(words[i], options->out == NULL ? REGULAR : ANY, &log);

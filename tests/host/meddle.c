@@ -5,6 +5,7 @@
  * link     no hard links
  * rename   no rename that replaces nothing
  * change   CHANGED is written over the file that was opened first, once a byte of it was read
+ * mapped   the same, through a mapping whose pages were written before: the file's times stay as they are
  * trace    tells on standard error of each name that is given, and of each folder that is synced
  */
 #define _GNU_SOURCE
@@ -15,6 +16,7 @@
 #include <stdio.h>
 #include <stdlib.h>
 #include <string.h>
+#include <sys/mman.h>
 #include <sys/stat.h>
 #include <unistd.h>
 
@@ -74,14 +76,37 @@ int fsync(int file) {
     return real(file);
 }
 
+/* The pages of the log, written as they are, so that a later store in them changes none of the file's times. */
+static char *mapped;
+
+int open(const char *name, int flags, ...) {
+    int (*real)(const char *, int, ...) = dlsym(RTLD_NEXT, "open");
+    va_list more;
+    va_start(more, flags);
+    mode_t mode = flags & (O_CREAT | O_TMPFILE) ? va_arg(more, mode_t) : 0;
+    va_end(more);
+    struct stat about;
+    if (meddles("mapped") && mapped == NULL && stat(name, &about) == 0 && S_ISREG(about.st_mode)) {
+        int file = real(name, O_RDWR);
+        mapped = mmap(NULL, (size_t)about.st_size, PROT_READ | PROT_WRITE, MAP_SHARED, file, 0);
+        for (off_t i = 0; i < about.st_size; i++)
+            ((volatile char *)mapped)[i] = mapped[i];
+        close(file);
+    }
+    return real(name, flags, mode);
+}
+
 /* Writes the other file over the one that is open here for reading. */
 static void change(int file) {
     char path[64], bytes[4096];
     snprintf(path, sizeof path, "/proc/self/fd/%d", file);
     int from = open(getenv("CHANGED"), O_RDONLY), to = open(path, O_WRONLY);
     ssize_t (*real)(int, void *, size_t) = dlsym(RTLD_NEXT, "read");
+    char *at = mapped;
     for (ssize_t n; (n = real(from, bytes, sizeof bytes)) > 0;)
-        if (write(to, bytes, (size_t)n) != n)
+        if (at != NULL)
+            at = memcpy(at, bytes, (size_t)n), at += n;
+        else if (write(to, bytes, (size_t)n) != n)
             abort();
     close(from);
     close(to);
@@ -90,7 +115,7 @@ static void change(int file) {
 ssize_t read(int file, void *bytes, size_t length) {
     ssize_t (*real)(int, void *, size_t) = dlsym(RTLD_NEXT, "read");
     static int changed;
-    if (!meddles("change") || changed)
+    if (!(meddles("change") || meddles("mapped")) || changed)
         return real(file, bytes, length);
     ssize_t n = real(file, bytes, length < 88 ? length : 88);
     changed = 1;
