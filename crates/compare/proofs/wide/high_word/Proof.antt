@@ -2,7 +2,6 @@
 use Prim.Native.Nat.{_/_, _%_, _*_}
 use Rattle.compare.proofs.Products.{small, columns, carries, high-of}
 use native.Mathlib.Omega.{arith}
-use borrow.Author.Needs.{needs}
 use Rattle.compare.proofs.wide.high_word.Statement.{statement}
 use Rattle.compare.proofs.wide.high_word.Tie as tie
 

@@ -2,10 +2,9 @@
 use mathlib.Core.Path.{_≡_, refl, ap, _∙_}
 use mathlib.Core.List.{List}
 use native.Mathlib.Omega.{arith}
-use Prim.Native.Nat.{ℕ, _-_, _+_, _*_, _<_, _≤_, _^_}
-use lib.ListN.{length, getD, length-set}
-use Rattle.replay.specs.Row.{width, abandoned}
-use Rattle.replay.specs.Private.{Held, Open}
+use Prim.Native.Nat.{ℕ, _-_, _≤_}
+use lib.ListN.{length, length-set}
+use Rattle.replay.specs.Private.{Held}
 use Rattle.replay.proofs.Holding.{in-rows, room-abandoned}
 use Rattle.replay.proofs.Leaving.{Passing, passing-start, passing-turn, passing-end}
 use Rattle.replay.proofs.acts.abandon.Statement.{statement}

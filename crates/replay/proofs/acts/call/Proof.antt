@@ -1,8 +1,6 @@
 -- `replay::acts::call` meets its contract: the clock, then an entry or an exit. Assumes nothing.
-use mathlib.Core.Path.{_≡_, refl, sym, ap, _∙_}
+use mathlib.Core.Path.{refl, sym, _∙_}
 use native.Mathlib.Omega.{arith}
-use Prim.Native.Nat.{ℕ, _+_, _<_, _≤_, _^_}
-use Rattle.replay.specs.Private.{stateAt}
 use Rattle.replay.proofs.Stepping.{clock-past, is-entry, is-exit}
 use borrow.Author.Needs.{needs}
 use Rattle.replay.proofs.acts.call.Statement.{statement}

@@ -1,8 +1,8 @@
 -- `replay::acts::enter` meets its contract: each answer by the law of an entry that applies. Assumes nothing.
 use mathlib.Core.Path.{_≡_, refl}
 use native.Mathlib.Omega.{arith}
-use Prim.Native.Nat.{_*_, _+_, _<_}
-use lib.ListN.{length, length-set}
+use Prim.Native.Nat.{_*_, _+_}
+use lib.ListN.{length-set}
 use Rattle.replay.specs.Row.{width, id}
 use Rattle.replay.proofs.Rows.{row-is-next}
 use Rattle.replay.proofs.Entering.{room-entered, enter-deep, enter-full, enter-known, held-known, kept-known, enter-new, held-new, kept-new}

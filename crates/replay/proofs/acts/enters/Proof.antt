@@ -1,6 +1,4 @@
 -- `replay::acts::enters` meets its contract: action by action. Assumes nothing.
-use lib.Dec.{eqb}
-use mathlib.Core.Bool.{_||_}
 use borrow.Author.Tests.{eq-eqb, ne-eqb}
 use Rattle.replay.proofs.acts.enters.Statement.{statement}
 use Rattle.replay.proofs.acts.enters.Tie as tie

@@ -1,7 +1,7 @@
 -- `replay::acts::leave` meets its contract: the call that is found is closed, or none is. Assumes nothing.
-use mathlib.Core.Path.{_≡_, refl, sym, ap, _∙_}
+use mathlib.Core.Path.{refl}
 use native.Mathlib.Omega.{arith}
-use Prim.Native.Nat.{ℕ, _-_, _<_}
+use Prim.Native.Nat.{_-_}
 use Rattle.replay.proofs.Leaving.{leave-none, closable, acted-popped, acted-over}
 use borrow.Author.Needs.{needs}
 use Rattle.replay.proofs.acts.leave.Statement.{statement}

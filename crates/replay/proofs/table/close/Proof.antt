@@ -1,14 +1,14 @@
 -- `replay::table::close` meets its contract: each answer by the law of a closed call that applies. Assumes nothing.
-use mathlib.Core.Path.{_≡_, sym, ap, _∙_, subst}
+use mathlib.Core.Path.{sym, ap, _∙_, subst}
 use mathlib.Core.Bool.{true, false}
 use mathlib.Core.List.{List}
 use native.Mathlib.Omega.{arith}
-use Prim.Native.Nat.{ℕ, _+_, _-_, _*_, _<_, _≤_, _^_}
+use Prim.Native.Nat.{ℕ, _+_, _-_, _*_}
 use lib.ListN.{length, getD, set}
-use lib.Seq.{getD-set-same, getD-set-other}
+use lib.Seq.{getD-set-other}
 use Rattle.replay.specs.Row.{width, closed, backward, ticks}
 use Rattle.replay.specs.Private.{Shut}
-use Rattle.replay.proofs.Leaving.{once, length-once, twice, shut-backward, shut-measured, shut-over}
+use Rattle.replay.proofs.Leaving.{length-once, shut-backward, shut-measured, shut-over}
 use borrow.Author.Needs.{needs}
 use Rattle.replay.proofs.table.close.Statement.{statement}
 use Rattle.replay.proofs.table.close.Tie as tie
