@@ -11,5 +11,5 @@ pub mod Trace
 pub mod Hidden
 pub mod Encoded
 pub mod Sample
-pub mod FirstByte
 pub mod Ahead
+pub mod Private

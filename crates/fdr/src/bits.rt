@@ -1,8 +1,8 @@
-// Where the bits of a record's first bytes and of the header's bitfield lie: a function for each definition of Bits.antt.
-// Together with number.rt this is all that knows the byte order.
+// Where the bits of a record's first bytes and of the header's bitfield lie, by the definitions of Bits.antt. Together with
+// number.rt this is all of the reading code that knows the byte order.
 ghost use mathlib.Core.Path.{_≡_};
 ghost use Rattle.fdr.specs.Bits.{isFunction, kindIn, actionIn, idIn, constantTscIn, nonstopTscIn};
-ghost use Rattle.fdr.specs.FirstByte.{toldBy};
+ghost use Rattle.fdr.specs.Private.{toldBy};
 use crate::record::Record;
 
 // What a first byte tells: the action of a function record, the kind of a metadata record, or that no record

@@ -2,7 +2,7 @@
 ghost use Prim.Native.Nat.{_<_};
 ghost use lib.ListN.{length};
 ghost use Rattle.replay.specs.Row.{mostRows};
-ghost use Rattle.replay_stdin.specs.Input.{Within};
+ghost use Rattle.replay_stdin.specs.Private.{Within};
 use libc::STDIN_FILENO;
 use libc::STDOUT_FILENO;
 use replay::Answer;

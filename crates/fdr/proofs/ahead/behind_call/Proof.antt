@@ -1,7 +1,7 @@
 -- `fdr::ahead::behind_call` meets its contract: by the action. Assumes nothing.
 use borrow.Author.Needs.{needs}
 use borrow.Author.Tests.{eq-eqb, ne-eqb}
-use Rattle.fdr.specs.Ahead.{stageBehind, behindCall}
+use Rattle.fdr.specs.Private.{stageBehind, behindCall}
 use Rattle.fdr.proofs.ahead.behind_call.Statement.{statement}
 use Rattle.fdr.proofs.ahead.behind_call.Tie as tie
 

@@ -5,7 +5,8 @@ use mathlib.Core.List.{[], _∷_}
 use native.Mathlib.Omega.{arith}
 use Rattle.fdr.specs.Record.{kindOf}
 use Rattle.fdr.specs.Decoded.{functionAt}
-use Rattle.fdr.specs.Ahead.{leading, call}
+use Rattle.fdr.specs.Ahead.{call}
+use Rattle.fdr.specs.Private.{leading}
 use Rattle.fdr.proofs.Records.{not-kind}
 use Rattle.fdr.proofs.Decoding.{tells}
 use Rattle.fdr.proofs.Calling.{no-calls, no-call, told-other, call-found}
