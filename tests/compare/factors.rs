@@ -1,7 +1,7 @@
 //! Ticks and frequencies of a pair, by how their products lie.
 
 use crate::products;
-use second::random::Random;
+use logs::random::Random;
 
 /// The four numbers that are multiplied.
 #[derive(Clone, Copy)]

@@ -3,8 +3,8 @@
 
 use crate::factors::{self, Four};
 use crate::sides;
+use logs::random::Random;
 use second::compare::Side;
-use second::random::Random;
 
 /// What a pair was made as. All kinds but `Random`, `Top`, `Small`, `Zeros`,
 /// `Edges` and `Refusals` have a unit and a measured call on both sides.

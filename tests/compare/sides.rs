@@ -1,7 +1,7 @@
 //! Sides of a pair, good and refused.
 
+use logs::random::Random;
 use second::compare::Side;
-use second::random::Random;
 
 /// A side of five numbers, each taken from `number`.
 fn side(mut number: impl FnMut() -> u64) -> Side {

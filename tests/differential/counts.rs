@@ -1,17 +1,18 @@
 //! What a run has seen.
 
 use harness::counts::Table;
+use harness::entries;
 use harness::record;
-use second::generate::Kind;
+use logs::generate::Kind;
 
 /// The entries, and what each can answer. A walk and a step that are over
 /// count as none; odd steps are those from positions that no walk need reach.
 const ENTRIES: [(&str, &[usize]); 5] = [
-    ("header", &[0, 1, 2, 3, 4]),
-    ("record reader", &[0, 5, 6]),
-    ("walk", &[0, 5, 6, 7, 8]),
-    ("odd step", &[0, 5, 6, 7, 8]),
-    ("record writer", &[0, 6, 15, 16]),
+    ("header", entries::HEADER),
+    ("record reader", entries::RECORD_READER),
+    ("walk", entries::WALK),
+    ("odd step", entries::WALK),
+    ("record writer", entries::RECORD_WRITER),
 ];
 pub const HEADER: usize = 0;
 pub const READER: usize = 1;

@@ -12,10 +12,10 @@ mod writing;
 
 use counts::Counts;
 use harness::suite::{self, Words};
+use logs::generate::{self, Kind};
+use logs::inputs;
+use logs::random::Random;
 use reading::Reading;
-use second::generate::{self, Kind};
-use second::inputs;
-use second::random::Random;
 use std::process::ExitCode;
 
 /// Inputs where no number is given.

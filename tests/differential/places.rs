@@ -2,7 +2,7 @@
 //! to a record, or far away.
 
 use harness::state::{At, NO_THREAD};
-use second::random::Random;
+use logs::random::Random;
 
 /// A record met on a walk.
 #[derive(Clone, Copy)]

@@ -6,8 +6,8 @@ use crate::places::{self, Met};
 use harness::answer;
 use harness::proved;
 use harness::state::At;
+use logs::random::Random;
 use second::header::{self, Header};
-use second::random::Random;
 use second::reader;
 use second::walk::{self, Step};
 

@@ -5,7 +5,7 @@ use crate::counts::{Counts, ANSWERS};
 use harness::answer;
 use harness::proved;
 use harness::record::{Fields, EVENT, FUNCTION};
-use second::random::Random;
+use logs::random::Random;
 use second::writer::write;
 
 /// Bytes on either side of the output.

@@ -1,7 +1,8 @@
 //! What a run has seen, in tables. A run fails where something that can come
 //! never came, and where something came that cannot.
 
-use second::inputs::Kind;
+use crate::entries::GREATEST;
+use logs::inputs::Kind;
 use std::fmt::{Display, Formatter, Result};
 
 /// Counts in rows and columns.
@@ -17,9 +18,6 @@ struct Row {
     /// The columns that can be hit.
     can: Vec<usize>,
 }
-
-/// The greatest number of a refusal.
-const REFUSALS: usize = 18;
 
 impl Table {
     /// One count a row, of this unit.
@@ -55,7 +53,7 @@ impl Table {
         rows: impl IntoIterator<Item = (impl ToString, &'a [usize])>,
     ) -> Table {
         let mut columns = vec!["none".to_string()];
-        columns.extend((1..=REFUSALS).map(|number| number.to_string()));
+        columns.extend((1..=GREATEST).map(|number| number.to_string()));
         Table::new(heading, &columns, rows)
     }
 

@@ -1,6 +1,6 @@
 //! Records as the numbers that the proved code takes and gives.
 
-use second::random::Random;
+use logs::random::Random;
 use second::record::Record;
 use second::writer::LEAST_BAD_ID;
 

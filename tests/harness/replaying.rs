@@ -2,7 +2,7 @@
 
 use crate::answer;
 use crate::proved;
-use second::random::Random;
+use logs::random::Random;
 use second::replay::{replay, Answer, TABLE};
 
 /// The longest table that is lent.

@@ -4,6 +4,7 @@ use crate::call::Call;
 use crate::edges::{self, Case, EDGES};
 use crate::plan::{Kind, SMALL};
 use harness::counts::Table;
+use harness::entries;
 use harness::record;
 use harness::state::At;
 use second::log_writer::State;
@@ -13,13 +14,13 @@ use std::collections::HashSet;
 /// The calls, and what each can answer. The odd ones are those in other states
 /// than a session's own, or with less of the output.
 const CALLS: [(&str, &[usize]); 7] = [
-    ("start", &[0, 15, 16]),
-    ("open", &[0, 7, 15]),
-    ("add", &[0, 7, 15, 16]),
-    ("close", &[0, 7]),
-    ("odd open", &[0, 7, 15]),
-    ("odd add", &[0, 7, 15, 16]),
-    ("odd close", &[0, 7]),
+    ("start", entries::START),
+    ("open", entries::OPEN),
+    ("add", entries::ADD),
+    ("close", entries::CLOSE),
+    ("odd open", entries::OPEN),
+    ("odd add", entries::ADD),
+    ("odd close", entries::CLOSE),
 ];
 /// How many rows the odd ones lie behind the others.
 const ODD: usize = 3;
@@ -28,7 +29,7 @@ const ODD: usize = 3;
 fn can_answer(record: &str) -> &'static [usize] {
     match record {
         "NewBuffer" | "EndOfBuffer" | "WallTimeMarker" | "action above 3" => &[7],
-        "Entry" | "Exit" | "Tail_Exit" | "Entry_Args" => &[0, 7, 15, 16],
+        "Entry" | "Exit" | "Tail_Exit" | "Entry_Args" => entries::ADD,
         _ => &[0, 7, 15],
     }
 }

@@ -16,7 +16,7 @@ use crate::session::Session;
 use harness::counts::Table;
 use harness::record::{self, Fields};
 use harness::suite;
-use second::random::Random;
+use logs::random::Random;
 use second::record::Record;
 use second::walk::{walk, Stage};
 use std::path::Path;

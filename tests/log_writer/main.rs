@@ -20,8 +20,8 @@ mod session;
 
 use counts::Counts;
 use harness::suite::{self, Words};
+use logs::random::Random;
 use plan::Kind;
-use second::random::Random;
 use session::Session;
 use std::process::ExitCode;
 

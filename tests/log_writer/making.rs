@@ -4,8 +4,8 @@ use crate::call::Call;
 use crate::plan::Kind;
 use harness::record::{Fields, ARGUMENT, EVENT, FUNCTION};
 use harness::state::{Opening, Start};
+use logs::random::Random;
 use second::log_writer::State;
-use second::random::Random;
 use second::walk::Stage;
 
 /// The least room in which most events are shorter, so that more of them fit.

@@ -2,9 +2,9 @@
 //! far away.
 
 use harness::state::At;
+use logs::random::Random;
 use second::header::LONGEST;
 use second::log_writer::State;
-use second::random::Random;
 
 /// A state near to this one, or, where none is given and at times else, near to
 /// one that some calls on an output of this length may return.

@@ -4,8 +4,8 @@
 use crate::call::Call;
 use harness::answer;
 use harness::state::At;
+use logs::random::Random;
 use second::log_writer::State;
-use second::random::Random;
 use std::ops::Range;
 
 /// Bytes on either side of an output, which are compared too.

@@ -1,7 +1,7 @@
 //! What a sequence of calls is made as.
 
+use logs::random::Random;
 use second::log_writer::GREATEST_BUFFER;
-use second::random::Random;
 
 #[derive(Debug, Clone, Copy, PartialEq, Eq)]
 pub enum Kind {

@@ -10,8 +10,8 @@ use crate::output::Output;
 use crate::plan::{Kind, Plan};
 use crate::reading;
 use harness::state::At;
+use logs::random::Random;
 use second::log_writer::{Start, State};
-use second::random::Random;
 use second::record::Record;
 use second::walk::Stage;
 

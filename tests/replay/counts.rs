@@ -2,10 +2,9 @@
 
 use harness::answer;
 use harness::counts::Table;
+use harness::entries;
 use second::replay::{Answer, TABLE};
 
-/// What a replay can answer.
-const REFUSALS: [usize; 15] = [0, 1, 2, 3, 4, 5, 6, 7, 8, 9, 10, 11, 12, 13, 14];
 /// Tables by their length, and of how many logs all numbers were asked for.
 const TABLES: [&str; 4] = [
     "too short",
@@ -28,7 +27,7 @@ impl Counts {
     pub fn new() -> Counts {
         Counts {
             kinds: Table::kinds("logs", "samples"),
-            refusals: Table::refusals("refusals", [("replay", &REFUSALS[..])]),
+            refusals: Table::refusals("refusals", [("replay", entries::REPLAY)]),
             tables: Table::counting("lent tables", "logs", TABLES),
             sums: Table::counting("of accepted logs", "sum", SUMS),
         }

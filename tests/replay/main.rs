@@ -12,8 +12,8 @@ mod program;
 use counts::Counts;
 use harness::replaying::{self, Expected, Lent};
 use harness::suite::{self, Words};
-use second::inputs::{self, Kind};
-use second::random::Random;
+use logs::inputs::{self, Kind};
+use logs::random::Random;
 use std::path::Path;
 use std::process::ExitCode;
 

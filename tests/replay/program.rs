@@ -2,10 +2,11 @@
 //! compared byte by byte. Paper 01, "Sample logs".
 
 use harness::counts::Table;
+use harness::entries;
 use harness::suite;
-use second::calls;
-use second::inputs::{self, Kind};
-use second::random::Random;
+use logs::calls;
+use logs::inputs::{self, Kind};
+use logs::random::Random;
 use second::replay::{lines, INPUT};
 use std::io::{self, ErrorKind, Write};
 use std::path::Path;
@@ -20,8 +21,6 @@ const TRIES: u64 = 400;
 /// The time between two pieces, in which a reader takes the first one.
 const PAUSE: Duration = Duration::from_micros(300);
 
-/// What the program can answer: it lends a whole table.
-const REFUSALS: [usize; 14] = [0, 1, 2, 3, 4, 5, 6, 7, 8, 9, 10, 11, 12, 13];
 /// What else is counted of its runs.
 const RUNS: [&str; 3] = ["whole", "in pieces", "too long"];
 const TOO_LONG: usize = 2;
@@ -40,7 +39,7 @@ pub fn run(program: &Path) -> Result<u64, String> {
     let mut runs = Runs {
         program,
         kinds: Table::kinds("runs", "samples and edges"),
-        refusals: Table::refusals("refusals", [("program", &REFUSALS[..])]),
+        refusals: Table::refusals("refusals", [("program", entries::REPLAY_PROGRAM)]),
         runs: Table::counting("input", "runs", RUNS),
     };
     for kind in Kind::all() {

@@ -5,7 +5,7 @@ use crate::counts::Counts;
 use crate::overwriting::{before, overwrite};
 use crate::scrubbing::Scrubbed;
 use harness::replaying::{self, Expected, Lent};
-use second::random::Random;
+use logs::random::Random;
 use second::replay::{Answer, TABLE};
 use second::scrub::{hidden, scrub, Part};
 

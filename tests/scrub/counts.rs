@@ -2,6 +2,7 @@
 
 use crate::overwriting::Way;
 use harness::counts::Table;
+use harness::entries;
 use second::replay::Answer;
 use second::scrub::{self, Part};
 
@@ -11,9 +12,9 @@ const HUGE: usize = 16_000_000;
 /// What can be answered: by the scrubber, by the replay to both logs of a pair
 /// of well-formed ones, and to both of a pair of refused ones.
 const ANSWERS: [(&str, &[usize]); 3] = [
-    ("scrubber", &[0, 1, 2, 3, 4, 5, 6, 7, 8]),
-    ("pairs, replayed", &[0, 9, 10, 11, 12, 13, 14]),
-    ("refused pairs, replayed", &[5, 6, 7, 8, 9, 10, 11, 12, 13]),
+    ("scrubber", entries::SCRUBBER),
+    ("pairs, replayed", entries::REPLAY_WELL_FORMED),
+    ("refused pairs, replayed", entries::REPLAY_REFUSED),
 ];
 const SCRUBBED: usize = 0;
 const PAIRS: usize = 1;

@@ -14,9 +14,9 @@ mod scrubbing;
 
 use checks::Checks;
 use harness::suite::{self, Words};
-use second::calls;
-use second::inputs::{self, Kind};
-use second::random::Random;
+use logs::calls;
+use logs::inputs::{self, Kind};
+use logs::random::Random;
 use std::process::ExitCode;
 
 /// Logs where no number is given.

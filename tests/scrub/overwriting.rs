@@ -1,6 +1,6 @@
 //! Hidden bytes overwritten at random.
 
-use second::random::Random;
+use logs::random::Random;
 use second::scrub::Part;
 
 /// Which of the hidden bytes are overwritten.

@@ -2,7 +2,7 @@
 
 use harness::answer;
 use harness::proved;
-use second::random::Random;
+use logs::random::Random;
 use second::scrub::{Kind, Part};
 
 /// Bytes on either side of a log, which must stay as they are.

@@ -9,8 +9,8 @@ use bench::table::{self, SECOND, TOWERCLOAK};
 use bench::{Fallible, MIB, SIZES};
 // Links the proved code.
 use harness as _;
+use logs::random::Random;
 use second::compare::Side;
-use second::random::Random;
 use std::hint::black_box;
 use std::process::ExitCode;
 

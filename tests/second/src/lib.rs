@@ -1,22 +1,16 @@
 //! A second, independent reading of trace logs after Paper 01: the header's
 //! tests, the record reader, the record writer and the log writer, the walk from
 //! record to record with the grammar, replay with its table, the hidden bytes
-//! and the scrubber, and the comparison of two times. With it come generators
-//! of logs, sound and damaged, for comparing another implementation with this
-//! one.
+//! and the scrubber, and the comparison of two times.
 //!
 //! Nothing here is quick or clever: each function follows one passage of the
 //! paper and names it.
 
 #![forbid(unsafe_code)]
 
-pub mod calls;
 pub mod compare;
-pub mod generate;
 pub mod header;
-pub mod inputs;
 pub mod log_writer;
-pub mod random;
 pub mod reader;
 pub mod record;
 pub mod replay;

@@ -1,11 +1,8 @@
-//! The second program against the sentences and the samples of Paper 01, and
-//! what holds of the generated logs.
+//! The second program against the sentences and the samples of Paper 01.
 
 mod bytes;
-mod calls;
 mod compare;
 mod log_writer;
-mod logs;
 mod reader;
 mod replay;
 mod scrub;

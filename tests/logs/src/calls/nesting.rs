@@ -2,7 +2,7 @@
 
 use super::maker::{Maker, LEAST};
 use crate::random::Random;
-use crate::record::ENTRY_ARGS;
+use second::record::ENTRY_ARGS;
 
 /// A buffer size for a log of a few KiB.
 pub fn any_size(random: &mut Random) -> Option<usize> {

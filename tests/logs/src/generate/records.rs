@@ -1,7 +1,7 @@
 //! Records with any values.
 
 use crate::random::Random;
-use crate::record::Record;
+use second::record::Record;
 
 pub fn function(random: &mut Random, action: u8) -> Record {
     let id = match random.below(3) {

@@ -1,6 +1,6 @@
 //! What holds of the logs that are made for the replay.
 
-use second::calls::{self, Kind};
+use logs::calls::{self, Kind};
 use second::replay::{replay, Answer, TABLE};
 use second::walk::{self, Outcome};
 

@@ -1,7 +1,7 @@
 //! What a log's calls do: they are entered, left and measured.
 
 use super::maker::Maker;
-use crate::record::ENTRY_ARGS;
+use second::record::ENTRY_ARGS;
 
 impl Maker<'_> {
     /// Entry, or Entry_Args with a run of arguments.

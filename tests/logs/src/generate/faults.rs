@@ -6,7 +6,7 @@ use super::records::{any_record, function, leading_records};
 use super::sound::{amount, good_buffer, plan, Plan};
 use super::Kind;
 use crate::random::Random;
-use crate::record::Record;
+use second::record::Record;
 
 /// A log with the fault of its kind in one of its buffers.
 pub fn one_fault(random: &mut Random, kind: Kind) -> Vec<u8> {

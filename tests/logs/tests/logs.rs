@@ -1,7 +1,7 @@
 //! What holds of the logs that are made for reading.
 
-use second::generate::{self, Kind};
-use second::inputs;
+use logs::generate::{self, Kind};
+use logs::inputs;
 use second::walk::{self, Outcome};
 
 #[test]

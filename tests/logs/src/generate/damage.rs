@@ -5,8 +5,8 @@ use super::buffer::Buffer;
 use super::bytes::{any_bytes, header};
 use super::records::any_record;
 use super::sound::{good_buffer, good_log, plan, well_formed, Plan};
-use crate::header;
 use crate::random::Random;
+use second::header;
 
 pub fn truncated(random: &mut Random) -> Vec<u8> {
     let plan = plan(random, 64, 1);

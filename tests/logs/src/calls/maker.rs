@@ -2,9 +2,9 @@
 //! closed and opened where they must be.
 
 use crate::generate::{self, encode};
-use crate::header;
 use crate::random::Random;
-use crate::record::{Record, ENTRY_ARGS};
+use second::header;
+use second::record::{Record, ENTRY_ARGS};
 
 /// The least buffer that has room for any body record: the leading records,
 /// 16 bytes and EndOfBuffer.

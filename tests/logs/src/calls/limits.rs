@@ -3,7 +3,7 @@
 use super::maker::Maker;
 use super::nesting::any_size;
 use crate::random::Random;
-use crate::replay::{DEEPEST, ROWS};
+use second::replay::{DEEPEST, ROWS};
 
 pub fn deep(random: &mut Random) -> Vec<u8> {
     let size = any_size(random);

@@ -1,9 +1,9 @@
 //! Logs damaged: bytes changed, a log cut, a record against the grammar.
 
-use crate::header;
 use crate::random::Random;
-use crate::record::Record;
-use crate::walk::{self, Item};
+use second::header;
+use second::record::Record;
+use second::walk::{self, Item};
 
 /// A byte or two changed: anywhere, or near a record's first byte.
 pub fn mutated(random: &mut Random, mut log: Vec<u8>) -> Vec<u8> {

@@ -2,9 +2,9 @@
 
 use super::damage::{mutated, truncated, ungrammatical};
 use super::maker::{Maker, LEAST};
-use crate::header;
 use crate::random::Random;
-use crate::replay::DEEPEST;
+use second::header;
+use second::replay::DEEPEST;
 
 /// A well-formed log of exactly this length with calls up to its end. It has
 /// one buffer, or more of them where the length allows it.

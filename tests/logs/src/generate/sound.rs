@@ -2,8 +2,8 @@
 
 use super::buffer::Buffer;
 use super::bytes::header;
-use crate::header;
 use crate::random::Random;
+use second::header;
 
 /// The sizes and the thread of a log to come.
 pub struct Plan {

@@ -3,7 +3,7 @@
 use super::bytes::encode;
 use super::records::{any_record, function, leading_records};
 use crate::random::Random;
-use crate::record::{Record, ENTRY_ARGS};
+use second::record::{Record, ENTRY_ARGS};
 
 /// A buffer in the making.
 pub struct Buffer<'a> {

@@ -6,8 +6,8 @@ use super::maker::{Maker, LEAST};
 use super::nesting::any_size;
 use crate::generate::encode;
 use crate::random::Random;
-use crate::record::Record;
-use crate::replay::{DEEPEST, ROWS};
+use second::record::Record;
+use second::replay::{DEEPEST, ROWS};
 
 /// An id that isn't open: one that was, a fresh one, or one that differs from
 /// an open one in a single bit.
