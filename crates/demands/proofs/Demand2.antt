@@ -9,7 +9,7 @@ use lib.ListN.{length, take}
 use lib.Seq.{length-take-le, getD-take}
 use Rattle.fdr.specs.Header.{passed, openedWithin, longest}
 use Rattle.fdr.specs.Walk.{inFront}
-use Rattle.fdr.specs.Trace.{done, traceFrom, trace, finished}
+use Rattle.fdr.specs.Trace.{done, traceFrom, trace, ending, finished}
 use Rattle.fdr.specs.declared.grammar.Stage.the-variants.{Between}
 use Rattle.fdr.specs.declared.grammar.Threads.the-variants.{Unseen}
 use Rattle.record_writer.specs.Writing.{startTests}
@@ -49,7 +49,7 @@ module _ (frequency : ℕ) (constant nonstop : Bool) (size : ℕ) where
 
   -- The end, in front of a buffer.
   closes-log : (room : ℕ) (w : Writer) (out : List ℕ) (logged : List Logged) → frequency < 2 ^ 64 → Written bytes size room w out logged → w .stage ≡ Between → ReadsAs (fixed frequency constant nonstop size) logged (take (w .place) out)
-  unfolding loggedIn finished
+  unfolding loggedIn ending
   closes-log room w out logged few h between =
       let s : List ℕ = take (w .place) out in
       let state : Sound w room = h .state in

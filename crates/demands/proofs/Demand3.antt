@@ -1,22 +1,22 @@
 -- Demand 3, proved. Assumes nothing.
 use Prim.Native.Nat.{ℕ}
 use mathlib.Core.Path.{_≡_, refl, sym, _∙_}
-use mathlib.Core.Bool.{Bool, true, false}
+use mathlib.Core.Bool.{Bool, true, false, true≢false}
 use mathlib.Core.List.{List}
 use native.Mathlib.Omega.{arith}
 use borrow.Author.Tests.{lt-ltb, le-ltb}
 use lib.Dec.{ltb}
 use lib.ListN.{length, getD}
 use Rattle.fdr.specs.Number.{byteAt}
-use Rattle.fdr.specs.Trace.{wellFormed, trace}
+use Rattle.fdr.specs.Trace.{Ending, wellFormed, trace}
 use Rattle.fdr.specs.Hidden.{hidden, Overwritten}
 use Rattle.refusal.proofs.Cases.{by-lt}
 use Rattle.fdr.proofs.Overwriting.{same-form, same-hidden}
 use Rattle.replay.specs.Row.{cells}
 use Rattle.replay.specs.Replay.{Verdict, refusal, answer}
-use Rattle.scrub.specs.Scrub.{Scrubbing, zeroed, bytesAfter}
+use Rattle.scrub.specs.Scrub.{zeroed, bytesAfter}
 use Rattle.scrub.proofs.Zeroing.{kept, length-zeroed, getD-zeroed, zeroed-same}
-use Rattle.scrub.proofs.Scrubbing.{well-scrubbed}
+use Rattle.fdr.proofs.Tracing.{all-pass}
 use Rattle.demands.specs.Demand3.{Alike, Demand3, OverwrittenBefore, SameRefusal, Ran, RanAlike}
 use Rattle.demands.proofs.Shown.{same-answer, same-table}
 
@@ -36,7 +36,7 @@ demand3 s t well o =
       places = same-hidden s t o;
       answers = same-answer s t o;
       tables = same-table s t o;
-      accepted = (well-scrubbed (trace s) well, well-scrubbed (trace t) formed);
+      accepted = (all-pass (trace s) well, all-pass (trace t) formed);
       copies = rw (scrubbed-copy s well, scrubbed-copy t formed) (zeroed-same (hidden s) (hidden t) s t (o .long) (λ i. same-copied i (hidden s i) refl));
       long = rw (scrubbed-copy s well) (length-zeroed 0 (hidden s) s);
       zero = λ i. copied s well i true;
@@ -53,17 +53,17 @@ less place s t o = record { long = o .long; kept = λ i h. o .kept i (rw h) }
 
 pub sameRefusal : SameRefusal
 unfolding answer
-sameRefusal s t a b n place lo hi e o lb =
+sameRefusal s t a b n place one e o lb =
     sym (same-answer s t (less place s t o) a b (enough ∙ sym (le-ltb (length b) cells lb))) ∙ e
   where
     enough : ltb (length a) cells ≡ false
     enough =
         by-lt (length a) cells
-        (λ l. let short : answer s a ≡ refusal 14 0 = rw (lt-ltb (length a) cells l, answer) in let f : n ≡ 14 = cc in absurd (omega arith))
+        (λ l. let short : answer s a ≡ refusal 14 0 = rw (lt-ltb (length a) cells l, answer) in let f : n ≡ 14 = cc in absurd (true≢false (sym one ∙ rw f)))
         (λ l. le-ltb (length a) cells l)
 
 -- Demand 3 of what the functions answer and leave.
-pub ran-alike : (s t a b : List ℕ) (v w : Verdict) (u n : List ℕ) (c d : Scrubbing) (x y : List ℕ) → Ran s a v u c x → Ran t b w n d y → wellFormed s ≡ true → Overwritten s t → RanAlike s t a b v w u n c d x y
+pub ran-alike : (s t a b : List ℕ) (v w : Verdict) (u n : List ℕ) (c d : Ending) (x y : List ℕ) → Ran s a v u c x → Ran t b w n d y → wellFormed s ≡ true → Overwritten s t → RanAlike s t a b v w u n c d x y
 ran-alike s t a b v w u n c d x y f g well o =
     let z : Alike s t = demand3 s t well o in
     record {

@@ -7,12 +7,13 @@ use mathlib.Core.Bool.{true, false, _&&_}
 use mathlib.Core.List.{List}
 use lib.Dec.{ltb}
 use lib.ListN.{length, take}
+use Rattle.refusal.specs.Sets.{isIn, atRecord}
 use Rattle.fdr.specs.Number.{byteAt}
-use Rattle.fdr.specs.Trace.{wellFormed}
+use Rattle.fdr.specs.Trace.{Ending, allPass, wellFormed}
 use Rattle.fdr.specs.Hidden.{hidden, Overwritten}
 use Rattle.replay.specs.Row.{cells}
 use Rattle.replay.specs.Replay.{Verdict, refusal, answer, tableAfter}
-use Rattle.scrub.specs.Scrub.{Scrubbing, scrubbed, scrubbing, bytesAfter}
+use Rattle.scrub.specs.Scrub.{scrubbing, bytesAfter}
 
 -- What is the same of a log s and of a log t that overwrites its hidden bytes.
 pub record Alike (s t : List ℕ) : Type 0 where
@@ -25,7 +26,7 @@ pub record Alike (s t : List ℕ) : Type 0 where
   -- "where to neither, the written parts of their tables then hold the same numbers, whatever the tables held before"
   pub tables : (a b : List ℕ) → cells ≤ length a → cells ≤ length b → take cells (tableAfter s a) ≡ take cells (tableAfter t b)
   -- "The scrubber accepts both logs, and the scrubbed copy is what the log holds after it."
-  pub accepted : (scrubbing s ≡ scrubbed) × (scrubbing t ≡ scrubbed)
+  pub accepted : (scrubbing s ≡ allPass) × (scrubbing t ≡ allPass)
   -- Demand 3: "the scrubbed copies are equal, zero in every hidden byte and the old byte elsewhere"
   pub copies : bytesAfter s ≡ bytesAfter t
   pub long : length (bytesAfter s) ≡ length s
@@ -44,23 +45,23 @@ pub record OverwrittenBefore (place : ℕ) (s t : List ℕ) : Type 0 where
 -- "For a log refused by 5 to 13, overwriting the hidden bytes that lie before the refused place gives the same replay
 -- refusal and place."
 abbrev pub SameRefusal : Type 0
-SameRefusal = (s t a b : List ℕ) (n place : ℕ) → 5 ≤ n → n ≤ 13 → answer s a ≡ refusal n place → OverwrittenBefore place s t → cells ≤ length b → answer t b ≡ refusal n place
+SameRefusal = (s t a b : List ℕ) (n place : ℕ) → isIn n atRecord ≡ true → answer s a ≡ refusal n place → OverwrittenBefore place s t → cells ≤ length b → answer t b ≡ refusal n place
 
 -- What `replay` and `scrub` answer and leave of one log, by their contracts: the verdict, the table, the scrubber's
 -- answer and the bytes.
-pub record Ran (s table : List ℕ) (v : Verdict) (u : List ℕ) (c : Scrubbing) (x : List ℕ) : Type 0 where
+pub record Ran (s table : List ℕ) (v : Verdict) (u : List ℕ) (c : Ending) (x : List ℕ) : Type 0 where
   pub verdict : v ≡ answer s table
   pub numbers : u ≡ tableAfter s table
   pub says : c ≡ scrubbing s
   pub bytes : x ≡ bytesAfter s
 
 -- `Alike` of what the code answered and left, of the log s and of the log t.
-pub record RanAlike (s t a b : List ℕ) (v w : Verdict) (u n : List ℕ) (c d : Scrubbing) (x y : List ℕ) : Type 0 where
+pub record RanAlike (s t a b : List ℕ) (v w : Verdict) (u n : List ℕ) (c d : Ending) (x y : List ℕ) : Type 0 where
   pub formed : wellFormed t ≡ true
   pub places : (i : ℕ) → hidden s i ≡ hidden t i
   pub answers : ltb (length a) cells ≡ ltb (length b) cells → v ≡ w
   pub tables : cells ≤ length a → cells ≤ length b → take cells u ≡ take cells n
-  pub accepted : (c ≡ scrubbed) × (d ≡ scrubbed)
+  pub accepted : (c ≡ allPass) × (d ≡ allPass)
   pub copies : x ≡ y
   pub long : length x ≡ length s
   pub zero : (i : ℕ) → hidden s i ≡ true → byteAt x i ≡ 0

@@ -10,7 +10,7 @@ use Rattle.fdr.specs.Decoded.{functionAt, metadataAt, decoded}
 use Rattle.fdr.specs.Header.{headerOf, headerTests, openedWithin}
 use Rattle.fdr.specs.Reading.{sizeTest, recordAt}
 use Rattle.fdr.specs.Walk.{stepIn, next}
-use Rattle.fdr.specs.Trace.{walked, traceFrom, traceWithin, finished}
+use Rattle.fdr.specs.Trace.{walked, traceFrom, traceWithin, allPass, ending}
 use Rattle.fdr.specs.Hidden.{hiddenIn, hidden}
 use Rattle.fdr.specs.Encoded.{functionBytes, metadataBytes, recordBytes, headerBytes}
 use Rattle.fdr.specs.Sample.{sampleHeader, logBytes, sampleB, sampleWrongExit, sampleAbandoned, sampleBackward, sampleNested, sampleShortest, sampleTooShort, sampleClock, sampleArgument}
@@ -18,7 +18,7 @@ use Rattle.replay.specs.Row.{rowOf, flat, tableOf}
 use Rattle.replay.specs.Stack.{nearest, abandonAll}
 use Rattle.replay.specs.Step.{entryIn, entry, measured, exitOf, exitTo, exit, byAction, moved, step}
 use Rattle.replay.specs.Replay.{report, refusal, countsOf, replayed, meaning, recordsIn, buffersIn, answer, tableAfter}
-use Rattle.scrub.specs.Scrub.{scrubbed, ending, scrubbing, zeroedFrom, bytesAfter}
+use Rattle.scrub.specs.Scrub.{scrubbing, zeroedFrom, bytesAfter}
 use Rattle.log_writer.specs.Start.{fresh, put, started, outputStarted}
 use Rattle.log_writer.specs.State.{reachable, inBuffer, standing, sound}
 use Rattle.log_writer.specs.Call.{Call, opening, adding, closing, stageAfter, takes, addedBytes, callBytes, stateAfter, callTests, outputCalled, called as calledOn}
@@ -96,8 +96,8 @@ filled from count s = take from s ++ (replicate count 255 ++ drop (from + count)
 unfoldable pub dirtyB : List ℕ
 dirtyB = filled 24 8 (filled 35 13 (filled 61 3 (filled 75 5 (filled 97 31 sampleB))))
 
-pub scrubbedB : (scrubbing dirtyB ≡ scrubbed) × (bytesAfter dirtyB ≡ sampleB)
-unfolding filled dirtyB zeros bytesOf functionBytes metadataBytes recordBytes headerBytes sampleHeader logBytes sampleB number functionAt metadataAt decoded headerOf headerTests openedWithin sizeTest recordAt stepIn next walked traceFrom traceWithin finished hiddenIn hidden ending zeroedFrom bytesAfter
+pub scrubbedB : (scrubbing dirtyB ≡ allPass) × (bytesAfter dirtyB ≡ sampleB)
+unfolding filled dirtyB zeros bytesOf functionBytes metadataBytes recordBytes headerBytes sampleHeader logBytes sampleB number functionAt metadataAt decoded headerOf headerTests openedWithin sizeTest recordAt stepIn next walked traceFrom traceWithin ending hiddenIn hidden zeroedFrom bytesAfter
 scrubbedB = (refl, refl)
 
 -- B written by the log writer, into an output of 128 bytes of 7.

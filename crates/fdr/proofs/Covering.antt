@@ -8,7 +8,7 @@ use lib.ListN.{length}
 use Rattle.fdr.specs.Record.{visible}
 use Rattle.fdr.specs.Header.{Opening, passed, failed, openedWithin, longest}
 use Rattle.fdr.specs.Walk.{Stepping, over, went, stopped, next, startOf}
-use Rattle.fdr.specs.Trace.{Trace, refusedAt, traced, walked, traceFrom, traceWithin, trace, finished, wellFormed}
+use Rattle.fdr.specs.Trace.{Trace, refusedAt, traced, walked, traceFrom, traceWithin, trace, ending, finished, wellFormed}
 use Rattle.fdr.specs.Hidden.{hiddenIn, hidden, visibleIn}
 use Rattle.fdr.specs.declared.walk.Position.{Position}
 use Rattle.refusal.proofs.Cases.{by-lt}
@@ -29,7 +29,7 @@ abbrev Parted : Trace → ℕ → Type 0
 Parted t i = hiddenIn t i ≡ not (visibleIn t i)
 
 parted-from : (f : ℕ) (s : List ℕ) (p : Position) (i : ℕ) → finished (walked f s p) ≡ true → p .place ≤ i → i < length s → Parted (walked f s p) i
-unfolding walked finished hiddenIn visibleIn
+unfolding walked ending hiddenIn visibleIn
 parted-from zero s p i e lo hi = absurd (true≢false (sym e))
 parted-from (suc f) s p i e lo hi = go (next s p) refl e (λ q fin l. parted-from f s q i fin l hi)
   where
@@ -48,7 +48,7 @@ parted-from (suc f) s p i e lo hi = go (next s p) refl e (λ q fin l. parted-fro
 -- THE LAW OF HIDDEN BYTES: in a well-formed log the bytes behind the header are hidden where they are no record's visible
 -- ones.
 pub covered : (s : List ℕ) (i : ℕ) → wellFormed s ≡ true → 32 ≤ i → i < length s → hidden s i ≡ not (visibleIn (trace s) i)
-unfolding traceWithin traceFrom finished hidden
+unfolding traceWithin traceFrom ending hidden
 covered s i well lo hi = rw (behind-range 24 32 i lo) (go (openedWithin longest s) well)
   where
     go : (x : Opening) → finished (elim x [ passed h ↦ traceFrom s (startOf h) | failed n ↦ refusedAt n 0 ]) ≡ true → Parted (elim x [ passed h ↦ traceFrom s (startOf h) | failed n ↦ refusedAt n 0 ]) i

@@ -14,7 +14,7 @@ use Rattle.fdr.specs.Header.{Opening, passed, failed, headerOf, headerTe
 use Rattle.fdr.specs.Reading.{Reading, found, refused, recordAt}
 use Rattle.fdr.specs.Grammar.{follows}
 use Rattle.fdr.specs.Walk.{Stepping, over, went, stopped, inFront, grammarTest, recordTest, stepIn, next, startOf}
-use Rattle.fdr.specs.Trace.{Trace, item, done, refusedAt, traced, walked, traceFrom, traceWithin, trace, finished, wellFormed}
+use Rattle.fdr.specs.Trace.{Trace, item, done, refusedAt, traced, walked, traceFrom, traceWithin, trace, ending, finished, wellFormed}
 use Rattle.fdr.specs.Hidden.{within, hiddenIn, hidden, shown, shownIn, Overwritten}
 use Rattle.fdr.specs.declared.record.Record.{Record}
 use Rattle.fdr.specs.declared.record.Record.the-variants.{Function, NewBuffer, EndOfBuffer, NewCpuId, TscWrap, WallTime, CustomEvent, CallArgument}
@@ -186,7 +186,7 @@ overwritten s t o =
 
 -- What is well-formed and what is hidden is told by the trace without what is hidden.
 finished-shown : (t : Trace) → finished t ≡ finished (shownIn t)
-unfolding finished shownIn
+unfolding ending shownIn
 finished-shown (item place r after rest) = finished-shown rest
 finished-shown done = refl
 finished-shown (refusedAt n place) = refl

@@ -10,7 +10,7 @@ use Rattle.record_writer.specs.Writing.{Writing, wrote, denied}
 use Rattle.fdr.specs.Walk.{Stepping, over, went, stopped}
 use Rattle.fdr.specs.declared.record.Record.{Record}
 use Rattle.fdr.specs.declared.record.Record.the-variants.{Function, NewBuffer, EndOfBuffer, NewCpuId, TscWrap, WallTime, CustomEvent, CallArgument}
-use Rattle.scrub.specs.Scrub.{Scrubbing, scrubbed}
+use Rattle.fdr.specs.Trace.{Ending, allPass, failsBy}
 use Rattle.log_writer.specs.Start.{Outcome}
 use Rattle.probe.specs.Numbers.{scrubbingNumbers, outcomeNumbers, writingNumbers, recordOf, recordNumbers, openingNumbers, readingNumbers, steppingNumbers}
 
@@ -64,9 +64,9 @@ function-of (suc (suc (suc (suc (suc zero))))) a b c e0 e1 e2 e3 e4 e5 e6 = absu
 function-of (suc (suc (suc (suc (suc (suc zero)))))) a b c e0 e1 e2 e3 e4 e5 e6 = absurd (e6 refl)
 function-of (suc (suc (suc (suc (suc (suc (suc k))))))) a b c e0 e1 e2 e3 e4 e5 e6 = refl
 
-pub scrubbing-long : (x : Scrubbing) → length (scrubbingNumbers x) ≡ 2
-scrubbing-long scrubbed = refl
-scrubbing-long (Scrubbing.refused n place) = refl
+pub scrubbing-long : (x : Ending) → length (scrubbingNumbers x) ≡ 2
+scrubbing-long allPass = refl
+scrubbing-long (failsBy n place) = refl
 
 pub outcome-long : (x : Outcome) → length (outcomeNumbers x) ≡ 6
 outcome-long (Outcome.went w) = refl

@@ -8,7 +8,7 @@ use Rattle.fdr.specs.Header.{Opening, passed, failed}
 use Rattle.fdr.specs.Reading.{Reading, found, refused}
 use Rattle.record_writer.specs.Writing.{Writing, wrote, denied}
 use Rattle.fdr.specs.Walk.{Stepping, over, went, stopped}
-use Rattle.scrub.specs.Scrub.{Scrubbing, scrubbed}
+use Rattle.fdr.specs.Trace.{Ending, allPass, failsBy}
 use Rattle.log_writer.specs.Start.{Outcome}
 use Rattle.log_writer.specs.declared.Writer.{Writer}
 use Rattle.fdr.specs.declared.record.Record.{Record}
@@ -104,9 +104,9 @@ writingNumbers (wrote size) = 0 ∷ size ∷ []
 writingNumbers (denied n) = n ∷ 0 ∷ []
 
 -- 0 twice where the log was scrubbed, or the refusal's number and its place.
-abbrev pub scrubbingNumbers : Scrubbing → List ℕ
-scrubbingNumbers scrubbed = 0 ∷ 0 ∷ []
-scrubbingNumbers (Scrubbing.refused n place) = n ∷ place ∷ []
+abbrev pub scrubbingNumbers : Ending → List ℕ
+scrubbingNumbers allPass = 0 ∷ 0 ∷ []
+scrubbingNumbers (failsBy n place) = n ∷ place ∷ []
 
 -- A writer's state from numbers, as a position's; a thread is cut to its width.
 abbrev pub writerOf : ℕ → ℕ → ℕ → ℕ → ℕ → Writer

@@ -10,7 +10,8 @@ use Rattle.fdr.specs.Record.{visible}
 use Rattle.refusal.specs.Refusal.{numberOf}
 use Rattle.fdr.specs.Header.{passed, failed, openedWithin, longest}
 use Rattle.fdr.specs.Walk.{Stepping, over, went, stopped, steppingOf, next, startOf}
-use Rattle.fdr.specs.Trace.{Trace, item, done, refusedAt, traced, traceFrom, trace, finished}
+use Rattle.fdr.specs.Trace.{traced, traceFrom, trace, Ending, allPass, failsBy, ending, finished}
+use Rattle.fdr.specs.Private.{endOf}
 use Rattle.fdr.specs.Hidden.{within, hiddenIn, hidden}
 use Rattle.fdr.specs.declared.record.Record.{Record}
 use Rattle.fdr.specs.declared.header.Header.{Header}
@@ -22,11 +23,10 @@ use Rattle.refusal.proofs.Cases.{clash}
 use Rattle.fdr.proofs.Records.{visible-size}
 use Rattle.fdr.proofs.Tracing.{forward, trace-next, trace-passed, trace-failed}
 use Rattle.fdr.proofs.Agreement.{SameFrom, trace-agree}
-use Rattle.scrub.specs.Scrub.{scrubbed, refused, ending, scrubbing, zeroed, bytesAfter}
-use Rattle.scrub.specs.Private.{endOf}
+use Rattle.scrub.specs.Scrub.{scrubbing, zeroed, bytesAfter}
 use Rattle.scrub.proofs.Zeroing.{length-zeroed, zeroed-none, zeroed-or, zeroed-behind}
 
-pub not-refused : (x : Step) → OneOf (0 ∷ 1 ∷ []) (tagOf the-steps x) → scrubbed ≡ endOf (steppingOf x)
+pub not-refused : (x : Step) → OneOf (0 ∷ 1 ∷ []) (tagOf the-steps x) → allPass ≡ endOf (steppingOf x)
 not-refused Over one = refl
 not-refused (Found r q) one = refl
 not-refused (Refused f a) one = absurd (miss (0 ∷ 1 ∷ []) 2 tt one)
@@ -72,31 +72,12 @@ module _ (s : List ℕ) (p : Position) where
     wiped n seen t was =
         range-wiped s t (p .place + n) (q .place) q (omega arith) was ∙ rw (trace-at (went r q) z, seen)
 
--- The answer tells whether a log is well-formed.
-ends-well : (t : Trace) → ending t ≡ scrubbed → finished t ≡ true
-unfolding ending finished
-ends-well (item place r after rest) e = ends-well rest e
-ends-well done e = refl
-ends-well (refusedAt n place) e = clash (cc)
-
-ends-badly : (t : Trace) (n place : ℕ) → ending t ≡ refused n place → finished t ≡ false
-unfolding ending finished
-ends-badly (item at r after rest) n place e = ends-badly rest n place e
-ends-badly done n place e = clash (cc)
-ends-badly (refusedAt m at) n place e = refl
-
-pub well-scrubbed : (t : Trace) → finished t ≡ true → ending t ≡ scrubbed
-unfolding ending finished
-well-scrubbed (item place r after rest) e = well-scrubbed rest e
-well-scrubbed done e = refl
-well-scrubbed (refusedAt n place) e = absurd (true≢false (sym e))
-
 -- A refused log is left as it was.
-pub left-alone : (s : List ℕ) (n place : ℕ) → refused n place ≡ scrubbing s → s ≡ bytesAfter s
+pub left-alone : (s : List ℕ) (n place : ℕ) → failsBy n place ≡ scrubbing s → s ≡ bytesAfter s
 unfolding bytesAfter
-left-alone s n place e = rw (ends-badly (trace s) n place (sym e), bytesAfter)
+left-alone s n place e = rw (← e, bytesAfter)
 
-pub header-refused : (s : List ℕ) (n : ℕ) → openedWithin longest s ≡ failed n → refused n 0 ≡ scrubbing s
+pub header-refused : (s : List ℕ) (n : ℕ) → openedWithin longest s ≡ failed n → failsBy n 0 ≡ scrubbing s
 unfolding ending
 header-refused s n z = rw (trace-failed longest s n z)
 
@@ -105,8 +86,8 @@ module _ (s : List ℕ) (h : Header) (z : openedWithin longest s ≡ passed h) w
   pub records-tell : ending (traceFrom s (startOf h)) ≡ scrubbing s
   records-tell = rw (trace-passed longest s h z)
 
-  pub both-wiped : (t : List ℕ) → t ≡ zeroed (within 24 32) s → scrubbed ≡ scrubbing s → zeroed (hiddenIn (traceFrom t (startOf h))) t ≡ bytesAfter s
+  pub both-wiped : (t : List ℕ) → t ≡ zeroed (within 24 32) s → allPass ≡ scrubbing s → zeroed (hiddenIn (traceFrom t (startOf h))) t ≡ bytesAfter s
   unfolding bytesAfter hidden
   both-wiped t e well =
       range-wiped s t 24 32 (startOf h) (omega arith) e
-      ∙ rw (ends-well (trace s) (sym well), bytesAfter, ← trace-passed longest s h z)
+      ∙ rw (← well, bytesAfter, ← trace-passed longest s h z)

@@ -3,29 +3,18 @@ use Prim.Native.Nat.{ℕ, _+_}
 use mathlib.Core.Bool.{Bool, true, false}
 use mathlib.Core.List.{List, [], _∷_}
 use Rattle.refusal.specs.Refusal.{numberOf}
-use Rattle.fdr.specs.Trace.{Trace, item, done, refusedAt, trace, wellFormed}
+use Rattle.fdr.specs.Trace.{trace, Ending, allPass, failsBy, ending, wellFormed}
 use Rattle.fdr.specs.Hidden.{hidden}
 use Rattle.scrub.specs.declared.Answer.{Answer}
 use Rattle.scrub.specs.declared.Answer.the-variants.{Scrubbed, Refused}
 
--- The log is scrubbed, or a refusal's number and place.
-pub data Scrubbing : Type 0 where
-  scrubbed : Scrubbing
-  refused : ℕ → ℕ → Scrubbing
-
 -- What the answer of the code says.
-abbrev pub scrubbingOf : Answer → Scrubbing
-scrubbingOf Scrubbed = scrubbed
-scrubbingOf (Refused refusal place) = refused (numberOf refusal) place
-
--- How a trace ends.
-unfoldable pub ending : Trace → Scrubbing
-ending (item place r after rest) = ending rest
-ending done = scrubbed
-ending (refusedAt n place) = refused n place
+abbrev pub scrubbingOf : Answer → Ending
+scrubbingOf Scrubbed = allPass
+scrubbingOf (Refused refusal place) = failsBy (numberOf refusal) place
 
 -- "The scrubber tests 1 to 8 only, in the replay's order"
-abbrev pub scrubbing : List ℕ → Scrubbing
+abbrev pub scrubbing : List ℕ → Ending
 scrubbing s = ending (trace s)
 
 -- The bytes of a list that starts at a place, with zero at the places of a set.

@@ -1,10 +1,10 @@
 // The scrubber: zero in every hidden byte of a log, in place, or one refusal with its place.
 ghost use mathlib.Core.Path.{_≡_};
 ghost use Rattle.fdr.specs.Header.{passed, openedWithin, longest};
-ghost use Rattle.fdr.specs.Trace.{traceFrom};
+ghost use Rattle.fdr.specs.Private.{endOf};
+ghost use Rattle.fdr.specs.Trace.{traceFrom, ending};
 ghost use Rattle.fdr.specs.Walk.{steppingOf};
-ghost use Rattle.scrub.specs.Scrub.{scrubbingOf, ending, scrubbing, bytesAfter};
-ghost use Rattle.scrub.specs.Private.{endOf};
+ghost use Rattle.scrub.specs.Scrub.{scrubbingOf, scrubbing, bytesAfter};
 use fdr::header::Header;
 use fdr::header::Opened;
 use fdr::record::Record;

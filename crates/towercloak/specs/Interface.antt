@@ -2,7 +2,7 @@
 use Prim.Native.Nat.{ℕ}
 use Rattle.compare.specs.Compare.{Comparison, lower, equal, higher, refused}
 use Rattle.compare.specs.declared.Side.{Side}
-use Rattle.scrub.specs.Scrub.{Scrubbing, scrubbed}
+use Rattle.fdr.specs.Trace.{Ending, allPass, failsBy}
 
 -- "lower, equal or higher", or the refusal's number. No refusal has the number 0, 1 or 2 here: they are 17 and 18.
 abbrev pub orderNumber : Comparison → ℕ
@@ -16,12 +16,12 @@ abbrev pub sideOf : ℕ → ℕ → ℕ → ℕ → ℕ → Side
 sideOf frequency constant closed backward ticks =
     record { frequency = frequency; «constant_tsc» = constant; closed = closed; backward = backward; ticks = ticks }
 
--- 0 where the log was scrubbed, or the refusal's number, 1 to 8; and the refusal's place. The paper names no place where
+-- 0 where the log was scrubbed, or the refusal's number; and the refusal's place. The paper names no place where
 -- there is no refusal: 0 stands there.
-abbrev pub scrubNumber : Scrubbing → ℕ
-scrubNumber scrubbed = 0
-scrubNumber (Scrubbing.refused n place) = n
+abbrev pub scrubNumber : Ending → ℕ
+scrubNumber allPass = 0
+scrubNumber (failsBy n place) = n
 
-abbrev pub scrubPlace : Scrubbing → ℕ
-scrubPlace scrubbed = 0
-scrubPlace (Scrubbing.refused n place) = place
+abbrev pub scrubPlace : Ending → ℕ
+scrubPlace allPass = 0
+scrubPlace (failsBy n place) = place

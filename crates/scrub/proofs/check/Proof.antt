@@ -1,9 +1,8 @@
 -- `scrub::check` meets its contract: the rest of the trace ends as the whole does. Assumes nothing.
-use Rattle.scrub.specs.Scrub.{ending}
 use Rattle.scrub.proofs.Scrubbing.{ends, ends-later}
 use Rattle.fdr.proofs.Tracing.{forward}
 use Rattle.fdr.proofs.Records.{sized-some}
-use Rattle.fdr.specs.Trace.{traceFrom}
+use Rattle.fdr.specs.Trace.{traceFrom, ending}
 use Rattle.fdr.specs.Walk.{went, steppingOf, next}
 use borrow.Author.Needs.{needs}
 use lib.ListN.{length}

@@ -1,6 +1,6 @@
 -- `scrub::ended` meets its contract: the log is over, or the walk was refused. Assumes nothing.
 use Rattle.scrub.proofs.Scrubbing.{not-refused}
-use Rattle.scrub.specs.Private.{endOf}
+use Rattle.fdr.specs.Private.{endOf}
 use Rattle.fdr.specs.declared.walk.Step.{Step}
 use Rattle.fdr.specs.Walk.{steppingOf}
 use mathlib.Core.Path.{sym, ap}
