@@ -5,7 +5,7 @@ use mathlib.Core.Bool.{Bool, true, false, _||_}
 use native.Mathlib.Omega.{arith}
 use lib.Dec.{eqb}
 use borrow.Author.Tests.{lt-ltb, le-ltb, eq-eqb, ne-eqb, le-leb, lt-leb}
-use Rattle.compare.specs.Compare.{lower, equal, higher, refused, noUnit, noMeasuredCall, byNumbers, compared}
+use Rattle.compare.specs.Compare.{lower, equal, higher, incomparable, noUnit, noMeasuredCall, byNumbers, compared}
 use Rattle.compare.specs.declared.Side.{Side}
 
 module _ (m n : ℕ) where
@@ -39,20 +39,20 @@ has-unit : (x : Side) → (x .frequency ≡ 0 → ⊥) → (x .«constant_tsc» 
 has-unit x f t = or-neither (eqb (x .frequency) 0) (eqb (x .«constant_tsc») 0) (ne-eqb (x .frequency) 0 f) (ne-eqb (x .«constant_tsc») 0 t)
 
 module _ (a b : Side) where
-  refused-17 : noUnit a || noUnit b ≡ true → refused 17 ≡ compared a b
+  refused-17 : noUnit a || noUnit b ≡ true → incomparable 17 ≡ compared a b
   unfolding compared
   refused-17 e = rw (e, compared)
 
-  pub frequency-a : a .frequency ≡ 0 → refused 17 ≡ compared a b
+  pub frequency-a : a .frequency ≡ 0 → incomparable 17 ≡ compared a b
   frequency-a e = refused-17 (ap (λ (t : Bool). t || noUnit b) (no-frequency a e))
 
-  pub constant-a : a .«constant_tsc» ≡ 0 → refused 17 ≡ compared a b
+  pub constant-a : a .«constant_tsc» ≡ 0 → incomparable 17 ≡ compared a b
   constant-a e = refused-17 (ap (λ (t : Bool). t || noUnit b) (no-constant a e))
 
-  pub frequency-b : b .frequency ≡ 0 → refused 17 ≡ compared a b
+  pub frequency-b : b .frequency ≡ 0 → incomparable 17 ≡ compared a b
   frequency-b e = refused-17 (or-right (noUnit a) (noUnit b) (no-frequency b e))
 
-  pub constant-b : b .«constant_tsc» ≡ 0 → refused 17 ≡ compared a b
+  pub constant-b : b .«constant_tsc» ≡ 0 → incomparable 17 ≡ compared a b
   constant-b e = refused-17 (or-right (noUnit a) (noUnit b) (no-constant b e))
 
   -- Both sides have a unit.
@@ -60,14 +60,14 @@ module _ (a b : Side) where
     units : noUnit a || noUnit b ≡ false
     units = or-neither (noUnit a) (noUnit b) (has-unit a fa ta) (has-unit b fb tb)
 
-    refused-18 : noMeasuredCall a || noMeasuredCall b ≡ true → refused 18 ≡ compared a b
+    refused-18 : noMeasuredCall a || noMeasuredCall b ≡ true → incomparable 18 ≡ compared a b
     unfolding compared
     refused-18 e = rw (units, e, compared)
 
-    pub calls-a : a .closed ≤ a .backward → refused 18 ≡ compared a b
+    pub calls-a : a .closed ≤ a .backward → incomparable 18 ≡ compared a b
     calls-a l = refused-18 (ap (λ (t : Bool). t || noMeasuredCall b) (le-leb (a .closed) (a .backward) l))
 
-    pub calls-b : b .closed ≤ b .backward → refused 18 ≡ compared a b
+    pub calls-b : b .closed ≤ b .backward → incomparable 18 ≡ compared a b
     calls-b l = refused-18 (or-right (noMeasuredCall a) (noMeasuredCall b) (le-leb (b .closed) (b .backward) l))
 
     pub by-products : a .backward < a .closed → b .backward < b .closed → byNumbers (a .ticks * b .frequency) (b .ticks * a .frequency) ≡ compared a b

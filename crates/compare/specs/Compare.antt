@@ -13,14 +13,14 @@ pub data Comparison : Type 0 where
   lower : Comparison
   equal : Comparison
   higher : Comparison
-  refused : ℕ → Comparison
+  incomparable : ℕ → Comparison
 
 -- What the answer of the code says.
 abbrev pub comparisonOf : Compared → Comparison
 comparisonOf Lower = lower
 comparisonOf Equal = equal
 comparisonOf Higher = higher
-comparisonOf (Refused refusal) = refused (numberOf refusal)
+comparisonOf (Refused refusal) = incomparable (numberOf refusal)
 
 -- 17: "either side has frequency 0 or constant_tsc 0"
 abbrev pub noUnit : Side → Bool
@@ -40,4 +40,4 @@ sideTests a b = test (noUnit a || noUnit b) 17 ∷ test (noMeasuredCall a || noM
 -- "and answers lower, equal or higher by the whole numbers ticksA times frequencyB and ticksB times frequencyA, whose
 -- products can need 128 bits."
 unfoldable pub compared : Side → Side → Comparison
-compared a b = firstOf refused (sideTests a b) (byNumbers (a .ticks * b .frequency) (b .ticks * a .frequency))
+compared a b = firstOf incomparable (sideTests a b) (byNumbers (a .ticks * b .frequency) (b .ticks * a .frequency))

@@ -17,8 +17,8 @@ use Rattle.fdr.specs.declared.grammar.Threads.the-variants.{Unseen, One}
 use Rattle.fdr.specs.declared.walk.Position.{Position}
 use Rattle.record_writer.proofs.ReadBack.{Here}
 use Rattle.log_writer.specs.declared.Writer.{Writer}
-use Rattle.log_writer.specs.Start.{Outcome, went, denied, put}
-use Rattle.log_writer.specs.Call.{Call, opening, adding, closing, isOpen, takes, addedBytes, callBytes, stateAfter, callTests, called, outputCalled}
+use Rattle.log_writer.specs.Start.{Replying, continues, declined, put}
+use Rattle.log_writer.specs.Call.{Call, opening, adding, closing, isOpen, takes, addedBytes, callBytes, stateAfter, callTests, calledOn, outputCalled}
 use Rattle.log_writer.specs.Session.{Logged, loggedBy, stateIn, outputIn, acceptedIn, TypedCall, TypedCalls}
 use Rattle.log_writer.proofs.Tests.{Passes, went-passes, passes-first, passes-behind}
 use Rattle.log_writer.proofs.Stages.{in-front-between}
@@ -112,13 +112,13 @@ module _ (header : List ℕ) (size room : ℕ) where
   unfolding stateIn outputIn acceptedIn outputCalled
   session [] w out logged h typed = rw append-nil h
   session (c ∷ calls) w out logged h typed =
-      go (called w c room) refl (λ v next more k. session calls v next more k (typed .1))
+      go (calledOn w c room) refl (λ v next more k. session calls v next more k (typed .1))
     where
-      go : (x : Outcome) → called w c room ≡ x
+      go : (x : Replying) → calledOn w c room ≡ x
           → ((v : Writer) (next : List ℕ) (more : List Logged) → Written header size room v next more → Written header size room (stateIn room v calls) (outputIn v calls next) (more ++ acceptedIn room v calls))
           → Written header size room (stateIn room w (c ∷ calls)) (outputIn w (c ∷ calls) out) (logged ++ acceptedIn room w (c ∷ calls))
-      go (denied n) e rest = rw (h .long, e, outputCalled, acceptedIn) (rest w out logged h)
-      go (went v) e rest =
+      go (declined n) e rest = rw (h .long, e, outputCalled, acceptedIn) (rest w out logged h)
+      go (continues v) e rest =
           let (p, same) = went-passes (callTests w c room) (sym (called-sound (h .state) c) ∙ e) in
           rw (h .long, e, outputCalled, acceptedIn, ← same, ← append-assoc)
           (rest (stateAfter w c) (put (callBytes w c) (w .place) out) (logged ++ loggedBy w c) (accepts header size room w out logged h c (typed .0) p))

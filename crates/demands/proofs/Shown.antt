@@ -16,7 +16,7 @@ use Rattle.fdr.proofs.Overwriting.{overwritten}
 use Rattle.fdr.specs.Number.{zeros}
 use Rattle.replay.specs.Row.{Row, cells, flat, tableOf}
 use Rattle.replay.specs.Step.{State, Outcome, went, stopped, start, step}
-use Rattle.replay.specs.Replay.{Result, refused, replayed, meaning, recordsIn, buffersOf, buffersIn, Verdict, refusal, told, answer, rowsOf, tableAfter}
+use Rattle.replay.specs.Replay.{Result, accepted, refused, replayed, meaning, recordsIn, buffersOf, buffersIn, Verdict, refusal, told, answer, rowsOf, tableAfter}
 
 -- What is hidden of a record is an argument's value alone.
 by-shown : {A : Type 0} (f : Record → A) → ((v : ℕ) → f (CallArgument v) ≡ f (shown (CallArgument v))) → (r : Record) → f r ≡ f (shown r)
@@ -91,7 +91,7 @@ module _ (s t : List ℕ) (o : Overwritten s t) where
     where
       go : (m : Result) → told m (trace s) ≡ told m (trace t)
       go (refused n place) = refl
-      go (Result.accepted u) = rw (same-by buffersIn buffers-in-shown, same-by recordsIn records-in-shown)
+      go (accepted u) = rw (same-by buffersIn buffers-in-shown, same-by recordsIn records-in-shown)
 
   pub same-answer : (a b : List ℕ) → ltb (length a) cells ≡ ltb (length b) cells → answer s a ≡ answer t b
   unfolding answer

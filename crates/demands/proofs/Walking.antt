@@ -11,7 +11,7 @@ use Rattle.fdr.specs.Record.{sizeOf, eventSize, Typed, Bounded}
 use Rattle.fdr.specs.Grammar.{onto, follows, joins, agreedWith, joinedBy}
 use Rattle.fdr.specs.Encoded.{recordBytes}
 use Rattle.record_writer.specs.Writing.{eventOf}
-use Rattle.fdr.specs.Walk.{went, inFront, behind, threadTest, grammarTest, stepIn, next}
+use Rattle.fdr.specs.Walk.{onward, inFront, behind, threadTest, grammarTest, stepIn, next}
 use Rattle.fdr.specs.Trace.{item, done, traceFrom, ending, finished}
 use Rattle.fdr.specs.declared.record.Record.{Record}
 use Rattle.fdr.specs.declared.record.Record.the-variants.{NewBuffer, EndOfBuffer, NewCpuId, WallTime}
@@ -51,7 +51,7 @@ goes-on {a} {b} first second = record {
 
 module _ (s : List ℕ) (p : Position) where
   -- One step.
-  steps : (x : Record) (q : Position) → next s p ≡ went x q → ReadsTo s p q (loggedAt s (p .place) x ∷ [])
+  steps : (x : Record) (q : Position) → next s p ≡ onward x q → ReadsTo s p q (loggedAt s (p .place) x ∷ [])
   unfolding loggedIn ending
   steps x q e =
       let t : traceFrom s p ≡ item (p .place) x (q .place) (traceFrom s q) = trace-next s p ∙ rw e in

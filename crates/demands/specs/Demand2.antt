@@ -13,7 +13,7 @@ use Rattle.fdr.specs.declared.record.Record.{Record}
 use Rattle.fdr.specs.declared.header.Header.{Header}
 use Rattle.fdr.specs.declared.grammar.Stage.the-variants.{Between}
 use Rattle.log_writer.specs.declared.Writer.{Writer}
-use Rattle.log_writer.specs.Start.{went, started, outputStarted}
+use Rattle.log_writer.specs.Start.{continues, started, outputStarted}
 use Rattle.log_writer.specs.Call.{Call}
 use Rattle.log_writer.specs.Session.{Logged, stateIn, outputIn, acceptedIn, TypedCalls}
 
@@ -45,7 +45,7 @@ pub record ReadsAs (header : Header) (accepted : List Logged) (log : List ℕ) :
 -- a close or right after the start the bytes so far are" such a log: for every sequence of calls, refused ones among them.
 abbrev pub WrittenLog : Type 0
 WrittenLog = (frequency : ℕ) (constant nonstop : Bool) (size thread : ℕ) (out : List ℕ) (first : Writer) (calls : List Call)
-    → frequency < 2 ^ 64 → thread < 2 ^ 16 → started size thread (length out) ≡ went first → TypedCalls calls
+    → frequency < 2 ^ 64 → thread < 2 ^ 16 → started size thread (length out) ≡ continues first → TypedCalls calls
     → stateIn (length out) first calls .stage ≡ Between
     → ReadsAs (fixed frequency constant nonstop size) (acceptedIn (length out) first calls) (take (stateIn (length out) first calls .place) (outputIn first calls (outputStarted frequency constant nonstop size thread out)))
 

@@ -21,7 +21,7 @@ use Rattle.replay.specs.Replay.{report, refusal, countsOf, replayed, meaning, r
 use Rattle.scrub.specs.Scrub.{scrubbing, zeroedFrom, bytesAfter}
 use Rattle.log_writer.specs.Start.{fresh, put, started, outputStarted}
 use Rattle.log_writer.specs.State.{reachable, inBuffer, standing, sound}
-use Rattle.log_writer.specs.Call.{Call, opening, adding, closing, stageAfter, takes, addedBytes, callBytes, stateAfter, callTests, outputCalled, called as calledOn}
+use Rattle.log_writer.specs.Call.{Call, opening, adding, closing, stageAfter, takes, addedBytes, callBytes, stateAfter, callTests, outputCalled, calledOn}
 use Rattle.log_writer.specs.Session.{outputIn}
 use Rattle.fdr.specs.declared.record.Record.the-variants.{Function}
 use Rattle.compare.specs.Sample.{Comparisons, comparisons}

@@ -10,7 +10,7 @@ ghost use Rattle.demands.specs.Demand3.{Ran, RanAlike};
 // The answers of one log's replay and of its scrubber.
 pub struct Answers {
     pub replayed: replay::Answer,
-    pub scrubbed: scrub::Answer,
+    pub scrubbed: scrub::Scrubbed,
 }
 
 // Of two logs.

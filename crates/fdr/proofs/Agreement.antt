@@ -9,7 +9,7 @@ use lib.ListN.{length, getD}
 use Rattle.fdr.specs.Number.{byteAt, number}
 use Rattle.fdr.specs.Bits.{isFunction, kindIn, actionIn}
 use Rattle.fdr.specs.Decoded.{Decoded, known, unknown, functionAt, metadata, metadataAt, decoded}
-use Rattle.fdr.specs.Reading.{Reading, refused, sizeTest, recordAt}
+use Rattle.fdr.specs.Reading.{Reading, noRecord, sizeTest, recordAt}
 use Rattle.fdr.specs.Walk.{Stepping, over, inFront, recordTest, stepIn, next}
 use Rattle.fdr.specs.Trace.{traced, walked, traceFrom}
 use Rattle.fdr.specs.declared.record.Record.{Record}
@@ -68,8 +68,8 @@ record-agree s t e p same =
   where
     of : ℕ → Decoded → Reading
     of n d = elim (leb e n) [
-      | true ↦ elim (ltb p e) [ true ↦ sizeTest d e p | false ↦ refused 5 p ]
-      | false ↦ refused 5 p
+      | true ↦ elim (ltb p e) [ true ↦ sizeTest d e p | false ↦ noRecord 5 p ]
+      | false ↦ noRecord 5 p
     ]
 
 -- A step depends only on the bytes from its place on.

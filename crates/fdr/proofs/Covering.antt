@@ -7,7 +7,7 @@ use native.Mathlib.Omega.{arith}
 use lib.ListN.{length}
 use Rattle.fdr.specs.Record.{visible}
 use Rattle.fdr.specs.Header.{Opening, passed, failed, openedWithin, longest}
-use Rattle.fdr.specs.Walk.{Stepping, over, went, stopped, next, startOf}
+use Rattle.fdr.specs.Walk.{Stepping, over, onward, halted, next, startOf}
 use Rattle.fdr.specs.Trace.{Trace, refusedAt, traced, walked, traceFrom, traceWithin, trace, ending, finished, wellFormed}
 use Rattle.fdr.specs.Hidden.{hiddenIn, hidden, visibleIn}
 use Rattle.fdr.specs.declared.walk.Position.{Position}
@@ -35,8 +35,8 @@ parted-from (suc f) s p i e lo hi = go (next s p) refl e (λ q fin l. parted-fro
   where
     go : (x : Stepping) → next s p ≡ x → finished (traced x (p .place) (λ q. walked f s q)) ≡ true → ((q : Position) → finished (walked f s q) ≡ true → q .place ≤ i → Parted (walked f s q) i) → Parted (traced x (p .place) (λ q. walked f s q)) i
     go over z fin more = absurd (omega (arith, over-end s p z))
-    go (stopped n at) z fin more = absurd (true≢false (sym fin))
-    go (went r q) z fin more =
+    go (halted n at) z fin more = absurd (true≢false (sym fin))
+    go (onward r q) z fin more =
         let by = forward s p r q z .by in
         let body : ℕ = p .place + visible r in
         by-lt i (q .place)

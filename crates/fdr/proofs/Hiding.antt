@@ -9,7 +9,7 @@ use lib.Dec.{leb, ltb}
 use lib.ListN.{length}
 use Rattle.fdr.specs.Record.{visible}
 use Rattle.fdr.specs.Header.{Opening, passed, failed, openedWithin, longest}
-use Rattle.fdr.specs.Walk.{Stepping, over, went, stopped, next, startOf}
+use Rattle.fdr.specs.Walk.{Stepping, over, onward, halted, next, startOf}
 use Rattle.fdr.specs.Trace.{Trace, item, done, refusedAt, traced, walked, traceFrom, traceWithin, trace}
 use Rattle.fdr.specs.Hidden.{within, hiddenIn}
 use Rattle.fdr.specs.declared.record.Record.{Record}
@@ -53,8 +53,8 @@ by-later P i ends stops more (suc f) s p l = go (next s p) refl (λ r q w. by-la
   where
     go : (x : Stepping) → next s p ≡ x → ((r : Record) (q : Position) → Forward s p r q → P (walked f s q)) → P (traced x (p .place) (λ q. walked f s q))
     go over z h = ends
-    go (stopped n at) z h = stops n at
-    go (went r q) z h = more (p .place) r (q .place) (walked f s q) l (h r q (forward s p r q z))
+    go (halted n at) z h = stops n at
+    go (onward r q) z h = more (p .place) r (q .place) (walked f s q) l (h r q (forward s p r q z))
 
 -- What is hidden lies behind the place where a trace starts.
 pub hidden-later : (f : ℕ) (s : List ℕ) (p : Position) (i : ℕ) → i < p .place → hiddenIn (walked f s p) i ≡ false

@@ -11,9 +11,9 @@ use Rattle.fdr.specs.Number.{byteAt, number}
 use Rattle.fdr.specs.Record.{Shape, shapeOf, sizeOf, visible}
 use Rattle.fdr.specs.Decoded.{known, decoded}
 use Rattle.fdr.specs.Header.{Opening, passed, failed, headerOf, headerTests, openedWithin, longest}
-use Rattle.fdr.specs.Reading.{Reading, found, refused, recordAt}
+use Rattle.fdr.specs.Reading.{Reading, found, noRecord, recordAt}
 use Rattle.fdr.specs.Grammar.{follows}
-use Rattle.fdr.specs.Walk.{Stepping, over, went, stopped, inFront, grammarTest, recordTest, stepIn, next, startOf}
+use Rattle.fdr.specs.Walk.{Stepping, over, onward, halted, inFront, grammarTest, recordTest, stepIn, next, startOf}
 use Rattle.fdr.specs.Trace.{Trace, item, done, refusedAt, traced, walked, traceFrom, traceWithin, trace, ending, finished, wellFormed}
 use Rattle.fdr.specs.Hidden.{within, hiddenIn, hidden, shown, shownIn, Overwritten}
 use Rattle.fdr.specs.declared.record.Record.{Record}
@@ -34,8 +34,8 @@ use Rattle.fdr.proofs.Visible.{Like, decoded-visible}
 -- A step without what is hidden in its record.
 abbrev shownStep : Stepping → Stepping
 shownStep over = over
-shownStep (went r q) = went (shown r) q
-shownStep (stopped n at) = stopped n at
+shownStep (onward r q) = onward (shown r) q
+shownStep (halted n at) = halted n at
 
 -- A record without what is hidden in it has its shape.
 shown-shape : (r : Record) → shapeOf (shown r) ≡ shapeOf r
@@ -58,7 +58,7 @@ module _ (p : Position) (e n : ℕ) where
   unfolding shown
   argument-tested v = go (p .stage)
     where
-      fits : (b : Bool) → shownStep (elim b [ true ↦ went (CallArgument v) (record { place = n + 0; end = e; size = p .size; stage = Arguments; threads = p .threads }) | false ↦ stopped 5 (p .place) ]) ≡ shownStep (elim b [ true ↦ went (CallArgument 0) (record { place = n + 0; end = e; size = p .size; stage = Arguments; threads = p .threads }) | false ↦ stopped 5 (p .place) ])
+      fits : (b : Bool) → shownStep (elim b [ true ↦ onward (CallArgument v) (record { place = n + 0; end = e; size = p .size; stage = Arguments; threads = p .threads }) | false ↦ halted 5 (p .place) ]) ≡ shownStep (elim b [ true ↦ onward (CallArgument 0) (record { place = n + 0; end = e; size = p .size; stage = Arguments; threads = p .threads }) | false ↦ halted 5 (p .place) ])
       fits true = refl
       fits false = refl
 
@@ -89,12 +89,12 @@ module _ (s t : List ℕ) (p : Position) (r : Record) (q : Position) (long : len
       let there : recordAt t e (p .place) ≡ found (like .other) n = found-at t e (p .place) (like .other) n (record { is = like .is; starts = at .starts; behind = omega (arith, at .behind); within = at .within; inLog = omega (arith, at .inLog) }) in
       shown-tested p e n r ∙ ap (tested p e n) (like .same) ∙ sym (shown-tested p e n (like .other)) ∙ ap shownStep (sym (step-found t p e (like .other) n there))
 
-  same-in : (e : ℕ) → stepIn s p e ≡ went r q → shownStep (stepIn s p e) ≡ shownStep (stepIn t p e)
+  same-in : (e : ℕ) → stepIn s p e ≡ onward r q → shownStep (stepIn s p e) ≡ shownStep (stepIn t p e)
   unfolding stepIn
   same-in e z = go (recordAt s e (p .place)) refl z
     where
-      go : (x : Reading) → recordAt s e (p .place) ≡ x → recordTest x p e ≡ went r q → shownStep (recordTest x p e) ≡ shownStep (stepIn t p e)
-      go (refused m l) d w = clash (cc)
+      go : (x : Reading) → recordAt s e (p .place) ≡ x → recordTest x p e ≡ onward r q → shownStep (recordTest x p e) ≡ shownStep (stepIn t p e)
+      go (noRecord m l) d w = clash (cc)
       go (found x n) d w =
           let at : Placed s e (p .place) x n = placed s e (p .place) x n d in
           let is : decoded s (p .place) ≡ known x = at .is in
@@ -102,15 +102,15 @@ module _ (s t : List ℕ) (p : Position) (r : Record) (q : Position) (long : len
           let one : r ≡ x = cc in
           ap (tested p e n) (sym one) ∙ alike e n (subst (λ (y : Record). Placed s e (p .place) y n) (sym one) at) (decoded-visible s t (p .place) r here same)
 
-  same-next : next s p ≡ went r q → shownStep (next s p) ≡ shownStep (next t p)
+  same-next : next s p ≡ onward r q → shownStep (next s p) ≡ shownStep (next t p)
   unfolding next
   same-next z = go (inFront (p .stage)) z
     where
-      front : (b : Bool) → elim b [ true ↦ stepIn s p (p .place + p .size) | false ↦ over ] ≡ went r q → shownStep (elim b [ true ↦ stepIn s p (p .place + p .size) | false ↦ over ]) ≡ shownStep (elim b [ true ↦ stepIn t p (p .place + p .size) | false ↦ over ])
+      front : (b : Bool) → elim b [ true ↦ stepIn s p (p .place + p .size) | false ↦ over ] ≡ onward r q → shownStep (elim b [ true ↦ stepIn s p (p .place + p .size) | false ↦ over ]) ≡ shownStep (elim b [ true ↦ stepIn t p (p .place + p .size) | false ↦ over ])
       front true w = same-in (p .place + p .size) w
       front false w = refl
 
-      go : (b : Bool) → elim b [ true ↦ elim (ltb (p .place) (length s)) [ true ↦ stepIn s p (p .place + p .size) | false ↦ over ] | false ↦ stepIn s p (p .end) ] ≡ went r q → shownStep (elim b [ true ↦ elim (ltb (p .place) (length s)) [ true ↦ stepIn s p (p .place + p .size) | false ↦ over ] | false ↦ stepIn s p (p .end) ]) ≡ shownStep (elim b [ true ↦ elim (ltb (p .place) (length t)) [ true ↦ stepIn t p (p .place + p .size) | false ↦ over ] | false ↦ stepIn t p (p .end) ])
+      go : (b : Bool) → elim b [ true ↦ elim (ltb (p .place) (length s)) [ true ↦ stepIn s p (p .place + p .size) | false ↦ over ] | false ↦ stepIn s p (p .end) ] ≡ onward r q → shownStep (elim b [ true ↦ elim (ltb (p .place) (length s)) [ true ↦ stepIn s p (p .place + p .size) | false ↦ over ] | false ↦ stepIn s p (p .end) ]) ≡ shownStep (elim b [ true ↦ elim (ltb (p .place) (length t)) [ true ↦ stepIn t p (p .place + p .size) | false ↦ over ] | false ↦ stepIn t p (p .end) ])
       go true w = front (ltb (p .place) (length s)) w ∙ ap (λ (n : ℕ). shownStep (elim (ltb (p .place) n) [ true ↦ stepIn t p (p .place + p .size) | false ↦ over ])) long
       go false w = same-in (p .end) w
 
@@ -122,8 +122,8 @@ module _ (s t : List ℕ) (long : length s ≡ length t) where
   shown-traced : (x : Stepping) (place : ℕ) (F : Position → Trace) → shownIn (traced x place F) ≡ traced (shownStep x) place (λ q. shownIn (F q))
   unfolding shownIn
   shown-traced over place F = refl
-  shown-traced (went r q) place F = refl
-  shown-traced (stopped n at) place F = refl
+  shown-traced (onward r q) place F = refl
+  shown-traced (halted n at) place F = refl
 
   walked-shown : (f : ℕ) (p : Position) → Same (p .place) (walked f s p) → shownIn (walked f s p) ≡ shownIn (walked f t p)
   unfolding walked shownIn hiddenIn
@@ -136,7 +136,7 @@ module _ (s t : List ℕ) (long : length s ≡ length t) where
       ends : (x : Stepping) → next s p ≡ x → ((i : ℕ) → p .place ≤ i → byteAt s i ≡ byteAt t i) → shownIn (traced x (p .place) rest) ≡ shownIn (traced (next t p) (p .place) rest)
       ends x z h = ap (λ (y : Stepping). shownIn (traced y (p .place) rest)) (sym z ∙ next-agree s t p (record { long = long; bytes = h }))
 
-      went-on : (r : Record) (q : Position) → next s p ≡ went r q → Same (p .place) (item (p .place) r (q .place) (walked f s q)) → Forward s p r q → shownIn (walked f s q) ≡ shownIn (walked f t q) → shownIn (item (p .place) r (q .place) (walked f s q)) ≡ shownIn (traced (next t p) (p .place) rest)
+      went-on : (r : Record) (q : Position) → next s p ≡ onward r q → Same (p .place) (item (p .place) r (q .place) (walked f s q)) → Forward s p r q → shownIn (walked f s q) ≡ shownIn (walked f t q) → shownIn (item (p .place) r (q .place) (walked f s q)) ≡ shownIn (traced (next t p) (p .place) rest)
       went-on r q z h w ih =
           let seen : Agree s t (p .place) (p .place + visible r) =
           λ i a b. h i a (shown-of (p .place) r (q .place) (walked f s q) i b (hidden-later f s q i (omega (arith, w .by, visible-size r)))) in
@@ -147,8 +147,8 @@ module _ (s t : List ℕ) (long : length s ≡ length t) where
 
       go : (x : Stepping) → next s p ≡ x → Same (p .place) (traced x (p .place) (λ q. walked f s q)) → ((q : Position) → Same (q .place) (walked f s q) → shownIn (walked f s q) ≡ shownIn (walked f t q)) → shownIn (traced x (p .place) (λ q. walked f s q)) ≡ shownIn (traced (next t p) (p .place) rest)
       go over z h more = ends over z (λ i l. h i l refl)
-      go (stopped n at) z h more = ends (stopped n at) z (λ i l. h i l refl)
-      go (went r q) z h more =
+      go (halted n at) z h more = ends (halted n at) z (λ i l. h i l refl)
+      go (onward r q) z h more =
           let w : Forward s p r q = forward s p r q z in
           went-on r q z h w (more q (λ i l none. h i (omega (arith, w .by)) (shown-behind (p .place) r (q .place) (walked f s q) i l none)))
 

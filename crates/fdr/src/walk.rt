@@ -1,9 +1,8 @@
 // The walk from record to record, over a position by value.
 ghost use mathlib.Core.Path.{_≡_};
 ghost use Prim.Native.Nat.{ℕ, _≤_};
-ghost use Rattle.fdr.specs.Reading.{readingOf};
-ghost use Rattle.fdr.specs.Reading as reading;
-ghost use Rattle.fdr.specs.Walk.{stopped, grammarTest, stepIn, next, steppingOf, startOf};
+ghost use Rattle.fdr.specs.Reading.{noRecord, readingOf};
+ghost use Rattle.fdr.specs.Walk.{halted, grammarTest, stepIn, next, steppingOf, startOf};
 ghost use Rattle.fdr.specs.Grammar.{follows};
 use crate::grammar::Follow;
 use crate::grammar::Joined;
@@ -56,7 +55,7 @@ fn refused(refusal: Refusal, place: usize) -> Step
 
 // No record was read: its refusal is the walk's.
 fn unread(read: Read) -> Step
-    ensures { λ r. ⌜ ((n place : ℕ) → readingOf read ≡ reading.refused n place → steppingOf r ≡ stopped n place) ⌝ }
+    ensures { λ r. ⌜ ((n place : ℕ) → readingOf read ≡ noRecord n place → steppingOf r ≡ halted n place) ⌝ }
 {
     let Read::Refused { refusal, place } = read else {
         return Step::Over;

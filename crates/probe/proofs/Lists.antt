@@ -5,13 +5,13 @@ use mathlib.Core.List.{List, [], _∷_}
 use native.Mathlib.Omega.{arith}
 use lib.ListN.{length, getD, List·getD-eq-default}
 use Rattle.fdr.specs.Header.{Opening, passed, failed}
-use Rattle.fdr.specs.Reading.{Reading, found, refused}
+use Rattle.fdr.specs.Reading.{Reading, found, noRecord}
 use Rattle.record_writer.specs.Writing.{Writing, wrote, denied}
-use Rattle.fdr.specs.Walk.{Stepping, over, went, stopped}
+use Rattle.fdr.specs.Walk.{Stepping, over, onward, halted}
 use Rattle.fdr.specs.declared.record.Record.{Record}
 use Rattle.fdr.specs.declared.record.Record.the-variants.{Function, NewBuffer, EndOfBuffer, NewCpuId, TscWrap, WallTime, CustomEvent, CallArgument}
 use Rattle.fdr.specs.Trace.{Ending, allPass, failsBy}
-use Rattle.log_writer.specs.Start.{Outcome}
+use Rattle.log_writer.specs.Start.{Replying, continues, declined}
 use Rattle.probe.specs.Numbers.{scrubbingNumbers, outcomeNumbers, writingNumbers, recordOf, recordNumbers, openingNumbers, readingNumbers, steppingNumbers}
 
 -- The first four of a list.
@@ -40,12 +40,12 @@ opening-long (failed n) = refl
 
 pub reading-long : (x : Reading) → length (readingNumbers x) ≡ 6
 reading-long (found r next) = omega (arith, record-long r)
-reading-long (refused n place) = refl
+reading-long (noRecord n place) = refl
 
 pub stepping-long : (x : Stepping) → length (steppingNumbers x) ≡ 10
 stepping-long over = refl
-stepping-long (went r q) = omega (arith, record-long r)
-stepping-long (stopped n place) = refl
+stepping-long (onward r q) = omega (arith, record-long r)
+stepping-long (halted n place) = refl
 
 pub writing-long : (x : Writing) → length (writingNumbers x) ≡ 2
 writing-long (wrote n) = refl
@@ -68,9 +68,9 @@ pub scrubbing-long : (x : Ending) → length (scrubbingNumbers x) ≡ 2
 scrubbing-long allPass = refl
 scrubbing-long (failsBy n place) = refl
 
-pub outcome-long : (x : Outcome) → length (outcomeNumbers x) ≡ 6
-outcome-long (Outcome.went w) = refl
-outcome-long (Outcome.denied n) = refl
+pub outcome-long : (x : Replying) → length (outcomeNumbers x) ≡ 6
+outcome-long (continues w) = refl
+outcome-long (declined n) = refl
 
 -- Past its end a list reads as 0.
 pub past : (l : List ℕ) (n i : ℕ) → length l ≡ n → n ≤ i → 0 ≡ getD l i 0

@@ -5,11 +5,11 @@ use mathlib.Core.List.{List, [], _∷_}
 use lib.Dec.{eqb, ltb}
 use lib.ListN.{length, getD}
 use Rattle.fdr.specs.Header.{Opening, passed, failed}
-use Rattle.fdr.specs.Reading.{Reading, found, refused}
+use Rattle.fdr.specs.Reading.{Reading, found, noRecord}
 use Rattle.record_writer.specs.Writing.{Writing, wrote, denied}
-use Rattle.fdr.specs.Walk.{Stepping, over, went, stopped}
+use Rattle.fdr.specs.Walk.{Stepping, over, onward, halted}
 use Rattle.fdr.specs.Trace.{Ending, allPass, failsBy}
-use Rattle.log_writer.specs.Start.{Outcome}
+use Rattle.log_writer.specs.Start.{Replying, continues, declined}
 use Rattle.log_writer.specs.declared.Writer.{Writer}
 use Rattle.fdr.specs.declared.record.Record.{Record}
 use Rattle.fdr.specs.declared.record.Record.the-variants.{Function, NewBuffer, EndOfBuffer, NewCpuId, TscWrap, WallTime, CustomEvent, CallArgument}
@@ -37,7 +37,7 @@ openingNumbers (failed n) = n ∷ 0 ∷ 0 ∷ 0 ∷ 0 ∷ []
 
 abbrev pub readingNumbers : Reading → List ℕ
 readingNumbers (found r next) = 0 ∷ next ∷ recordNumbers r
-readingNumbers (refused n place) = n ∷ place ∷ 0 ∷ 0 ∷ 0 ∷ 0 ∷ []
+readingNumbers (noRecord n place) = n ∷ place ∷ 0 ∷ 0 ∷ 0 ∷ 0 ∷ []
 
 -- The length and the bytes.
 abbrev pub eventNumbers : List ℕ → List ℕ
@@ -57,8 +57,8 @@ threadNumber (One thread) = thread
 -- 1000 where the log is over.
 abbrev pub steppingNumbers : Stepping → List ℕ
 steppingNumbers over = 1000 ∷ 0 ∷ 0 ∷ 0 ∷ 0 ∷ 0 ∷ 0 ∷ 0 ∷ 0 ∷ 0 ∷ []
-steppingNumbers (went r q) = 0 ∷ q .place ∷ q .end ∷ q .size ∷ stageNumber (q .stage) ∷ threadNumber (q .threads) ∷ recordNumbers r
-steppingNumbers (stopped n place) = n ∷ place ∷ 0 ∷ 0 ∷ 0 ∷ 0 ∷ 0 ∷ 0 ∷ 0 ∷ 0 ∷ []
+steppingNumbers (onward r q) = 0 ∷ q .place ∷ q .end ∷ q .size ∷ stageNumber (q .stage) ∷ threadNumber (q .threads) ∷ recordNumbers r
+steppingNumbers (halted n place) = n ∷ place ∷ 0 ∷ 0 ∷ 0 ∷ 0 ∷ 0 ∷ 0 ∷ 0 ∷ 0 ∷ []
 
 -- A position from numbers: any stage above 4 counts as 4, any thread above 65,535 as none seen.
 unfoldable pub stageOf : ℕ → Stage
@@ -114,6 +114,6 @@ writerOf size thread place end stage =
     record { size = size; thread = thread % 2 ^ 16; place = place; end = end; stage = stageOf stage }
 
 -- 0 and the writer's next state, or the refusal's number.
-abbrev pub outcomeNumbers : Outcome → List ℕ
-outcomeNumbers (Outcome.went w) = 0 ∷ w .size ∷ w .thread ∷ w .place ∷ w .end ∷ stageNumber (w .stage) ∷ []
-outcomeNumbers (Outcome.denied n) = n ∷ 0 ∷ 0 ∷ 0 ∷ 0 ∷ 0 ∷ []
+abbrev pub outcomeNumbers : Replying → List ℕ
+outcomeNumbers (continues w) = 0 ∷ w .size ∷ w .thread ∷ w .place ∷ w .end ∷ stageNumber (w .stage) ∷ []
+outcomeNumbers (declined n) = n ∷ 0 ∷ 0 ∷ 0 ∷ 0 ∷ 0 ∷ []

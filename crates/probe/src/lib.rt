@@ -13,7 +13,7 @@ ghost use Rattle.record_writer.specs.Writing.{written, outputAfter};
 ghost use Rattle.probe.specs.Numbers.{openingNumbers, readingNumbers, eventNumbers, steppingNumbers, positionOf, recordOf, writingNumbers, scrubbingNumbers, writerOf, outcomeNumbers};
 ghost use Rattle.scrub.specs.Scrub.{scrubbing, bytesAfter};
 ghost use Rattle.log_writer.specs.Start.{started, outputStarted};
-ghost use Rattle.log_writer.specs.Call.{opening, adding, closing, called, outputCalled};
+ghost use Rattle.log_writer.specs.Call.{opening, adding, closing, calledOn, outputCalled};
 ghost use mathlib.Core.Bool.{not};
 ghost use lib.Dec.{eqb};
 ghost use Prim.Native.Nat.{_%_, _^_};
@@ -156,7 +156,7 @@ pub extern "C" fn probe_open(
     out: &mut [u8],
     which: u64,
 ) -> u64
-    ensures { λ r. ⌜ r ≡ getD (outcomeNumbers (called (writerOf size thread place end stage) (opening seconds (micros % 2 ^ 32) (cpu % 2 ^ 16) tsc) (length (now (out .entry))))) which 0 ⌝ }
+    ensures { λ r. ⌜ r ≡ getD (outcomeNumbers (calledOn (writerOf size thread place end stage) (opening seconds (micros % 2 ^ 32) (cpu % 2 ^ 16) tsc) (length (now (out .entry))))) which 0 ⌝ }
     ensures { λ _. ⌜ now (out .exit) ≡ outputCalled (writerOf size thread place end stage) (opening seconds (micros % 2 ^ 32) (cpu % 2 ^ 16) tsc) (now (out .entry)) ⌝ }
 {
     let writer = writer_of(size, thread, place, end, stage);
@@ -180,7 +180,7 @@ pub extern "C" fn probe_add(
     out: &mut [u8],
     which: u64,
 ) -> u64
-    ensures { λ r. ⌜ r ≡ getD (outcomeNumbers (called (writerOf size thread place end stage) (adding (recordOf kind a b c) (now (event .entry))) (length (now (out .entry))))) which 0 ⌝ }
+    ensures { λ r. ⌜ r ≡ getD (outcomeNumbers (calledOn (writerOf size thread place end stage) (adding (recordOf kind a b c) (now (event .entry))) (length (now (out .entry))))) which 0 ⌝ }
     ensures { λ _. ⌜ now (out .exit) ≡ outputCalled (writerOf size thread place end stage) (adding (recordOf kind a b c) (now (event .entry))) (now (out .entry)) ⌝ }
 {
     let writer = writer_of(size, thread, place, end, stage);
@@ -198,7 +198,7 @@ pub extern "C" fn probe_close(
     out: &mut [u8],
     which: u64,
 ) -> u64
-    ensures { λ r. ⌜ r ≡ getD (outcomeNumbers (called (writerOf size thread place end stage) closing (length (now (out .entry))))) which 0 ⌝ }
+    ensures { λ r. ⌜ r ≡ getD (outcomeNumbers (calledOn (writerOf size thread place end stage) closing (length (now (out .entry))))) which 0 ⌝ }
     ensures { λ _. ⌜ now (out .exit) ≡ outputCalled (writerOf size thread place end stage) closing (now (out .entry)) ⌝ }
 {
     let writer = writer_of(size, thread, place, end, stage);

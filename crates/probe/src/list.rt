@@ -5,7 +5,7 @@ ghost use Rattle.fdr.specs.Reading.{readingOf};
 ghost use Rattle.fdr.specs.Walk.{steppingOf};
 ghost use Rattle.record_writer.specs.Writing.{writingOf};
 ghost use Rattle.scrub.specs.Scrub.{scrubbingOf};
-ghost use Rattle.log_writer.specs.Start.{outcomeOf};
+ghost use Rattle.log_writer.specs.Start.{replyingOf};
 ghost use lib.ListN.{getD};
 ghost use Rattle.probe.specs.Numbers.{scrubbingNumbers, writerOf, outcomeNumbers, writingNumbers, recordOf, recordNumbers, openingNumbers, readingNumbers, steppingNumbers, stageNumber, threadNumber, stageOf, threadsOf, positionOf};
 use fdr::grammar::Stage;
@@ -179,12 +179,12 @@ pub fn written_numbers(written: Written) -> [u64; 2]
     }
 }
 
-pub fn scrub_numbers(answer: scrub::Answer) -> [u64; 2]
+pub fn scrub_numbers(answer: scrub::Scrubbed) -> [u64; 2]
     ensures { λ r. ⌜ r ≡ scrubbingNumbers (scrubbingOf answer) ⌝ }
 {
     match answer {
-        scrub::Answer::Scrubbed => [0, 0],
-        scrub::Answer::Refused { refusal, place } => [refusal.number(), place],
+        scrub::Scrubbed::Clean => [0, 0],
+        scrub::Scrubbed::Refused { refusal, place } => [refusal.number(), place],
     }
 }
 
@@ -200,11 +200,11 @@ pub fn writer_of(size: u64, thread: u64, place: u64, end: u64, stage: u64) -> Wr
     }
 }
 
-fn outcome_numbers(answer: log_writer::Answer) -> [u64; 6]
-    ensures { λ r. ⌜ r ≡ outcomeNumbers (outcomeOf answer) ⌝ }
+fn outcome_numbers(answer: log_writer::Reply) -> [u64; 6]
+    ensures { λ r. ⌜ r ≡ outcomeNumbers (replyingOf answer) ⌝ }
 {
     match answer {
-        log_writer::Answer::Went(w) => {
+        log_writer::Reply::Continue(w) => {
             let at_stage = w.stage;
             let stage = stage_number(at_stage);
             [
@@ -216,13 +216,13 @@ fn outcome_numbers(answer: log_writer::Answer) -> [u64; 6]
                 stage,
             ]
         }
-        log_writer::Answer::Refused(refusal) => [refusal.number(), 0, 0, 0, 0, 0],
+        log_writer::Reply::Refused(refusal) => [refusal.number(), 0, 0, 0, 0, 0],
     }
 }
 
 // One number of the log writer's answer.
-pub fn answered(answer: log_writer::Answer, which: u64) -> u64
-    ensures { λ r. ⌜ r ≡ getD (outcomeNumbers (outcomeOf answer)) which 0 ⌝ }
+pub fn answered(answer: log_writer::Reply, which: u64) -> u64
+    ensures { λ r. ⌜ r ≡ getD (outcomeNumbers (replyingOf answer)) which 0 ⌝ }
 {
     let numbers = outcome_numbers(answer);
     if which < 6 {

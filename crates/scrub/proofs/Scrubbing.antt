@@ -9,7 +9,7 @@ use denote.Enum.Declared.{tagOf}
 use Rattle.fdr.specs.Record.{visible}
 use Rattle.refusal.specs.Refusal.{numberOf}
 use Rattle.fdr.specs.Header.{passed, failed, openedWithin, longest}
-use Rattle.fdr.specs.Walk.{Stepping, over, went, stopped, steppingOf, next, startOf}
+use Rattle.fdr.specs.Walk.{Stepping, over, onward, halted, steppingOf, next, startOf}
 use Rattle.fdr.specs.Trace.{traced, traceFrom, trace, Ending, allPass, failsBy, ending, finished}
 use Rattle.fdr.specs.Private.{endOf}
 use Rattle.fdr.specs.Hidden.{within, hiddenIn, hidden}
@@ -49,19 +49,19 @@ module _ (s : List ℕ) (p : Position) where
   pub ends : (x : Step) → steppingOf x ≡ next s p → OneOf (0 ∷ 2 ∷ []) (tagOf the-steps x) → endOf (steppingOf x) ≡ ending (traceFrom s p)
   unfolding ending
   ends Over e one = rw (trace-at over (sym e))
-  ends (Refused f a) e one = rw (trace-at (stopped (numberOf f) a) (sym e))
+  ends (Refused f a) e one = rw (trace-at (halted (numberOf f) a) (sym e))
   ends (Found r q) e one = absurd (miss (0 ∷ 2 ∷ []) 1 tt one)
 
   pub nothing-left : (x : Step) → steppingOf x ≡ next s p → OneOf (0 ∷ 2 ∷ []) (tagOf the-steps x) → s ≡ zeroed (hiddenIn (traceFrom s p)) s
   unfolding hiddenIn
   nothing-left Over e one = rw (trace-at over (sym e)) (sym (zeroed-none _ s (λ i. refl)))
-  nothing-left (Refused f a) e one = rw (trace-at (stopped (numberOf f) a) (sym e)) (sym (zeroed-none _ s (λ i. refl)))
+  nothing-left (Refused f a) e one = rw (trace-at (halted (numberOf f) a) (sym e)) (sym (zeroed-none _ s (λ i. refl)))
   nothing-left (Found r q) e one = absurd (miss (0 ∷ 2 ∷ []) 1 tt one)
 
-  module _ (r : Record) (q : Position) (z : next s p ≡ went r q) where
+  module _ (r : Record) (q : Position) (z : next s p ≡ onward r q) where
     pub ends-later : ending (traceFrom s p) ≡ ending (traceFrom s q)
     unfolding ending
-    ends-later = rw (trace-at (went r q) z)
+    ends-later = rw (trace-at (onward r q) z)
 
     pub visible-before : p .place + visible r ≤ q .place
     visible-before = omega (arith, forward s p r q z .by, visible-size r)
@@ -70,7 +70,7 @@ module _ (s : List ℕ) (p : Position) where
     pub wiped : (n : ℕ) → n ≡ visible r → (t : List ℕ) → t ≡ zeroed (within (p .place + n) (q .place)) s → zeroed (hiddenIn (traceFrom t q)) t ≡ zeroed (hiddenIn (traceFrom s p)) s
     unfolding hiddenIn
     wiped n seen t was =
-        range-wiped s t (p .place + n) (q .place) q (omega arith) was ∙ rw (trace-at (went r q) z, seen)
+        range-wiped s t (p .place + n) (q .place) q (omega arith) was ∙ rw (trace-at (onward r q) z, seen)
 
 -- A refused log is left as it was.
 pub left-alone : (s : List ℕ) (n place : ℕ) → failsBy n place ≡ scrubbing s → s ≡ bytesAfter s

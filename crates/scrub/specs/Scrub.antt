@@ -5,12 +5,12 @@ use mathlib.Core.List.{List, [], _∷_}
 use Rattle.refusal.specs.Refusal.{numberOf}
 use Rattle.fdr.specs.Trace.{trace, Ending, allPass, failsBy, ending, wellFormed}
 use Rattle.fdr.specs.Hidden.{hidden}
-use Rattle.scrub.specs.declared.Answer.{Answer}
-use Rattle.scrub.specs.declared.Answer.the-variants.{Scrubbed, Refused}
+use Rattle.scrub.specs.declared.Scrubbed.{Scrubbed}
+use Rattle.scrub.specs.declared.Scrubbed.the-variants.{Clean, Refused}
 
 -- What the answer of the code says.
-abbrev pub scrubbingOf : Answer → Ending
-scrubbingOf Scrubbed = allPass
+abbrev pub scrubbingOf : Scrubbed → Ending
+scrubbingOf Clean = allPass
 scrubbingOf (Refused refusal place) = failsBy (numberOf refusal) place
 
 -- "The scrubber tests 1 to 8 only, in the replay's order"

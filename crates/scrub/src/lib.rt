@@ -16,26 +16,26 @@ use wipe::zero;
 
 mod wipe;
 
-pub enum Answer {
-    Scrubbed,
+pub enum Scrubbed {
+    Clean,
     Refused { refusal: Refusal, place: u64 },
 }
 
 // The walk found no record: the log is over, or it is refused.
-fn ended(step: Step) -> Answer
+fn ended(step: Step) -> Scrubbed
     ensures { λ r. ⌜ scrubbingOf r ≡ endOf (steppingOf step) ⌝ }
 {
     let Step::Refused { refusal, place } = step else {
-        return Answer::Scrubbed;
+        return Scrubbed::Clean;
     };
-    Answer::Refused {
+    Scrubbed::Refused {
         refusal,
         place: place as u64,
     }
 }
 
 // Tests 5 to 8 of all records, from a position on.
-fn check(log: &[u8], first: Position) -> Answer
+fn check(log: &[u8], first: Position) -> Scrubbed
     ensures { λ r. ⌜ scrubbingOf r ≡ ending (traceFrom (now (log .entry)) first) ⌝ }
 {
     let mut at = first;
@@ -49,14 +49,14 @@ fn check(log: &[u8], first: Position) -> Answer
 }
 
 // Behind the header's tests. All records are tested before a byte is changed.
-fn scrub_records(log: &mut [u8], header: Header) -> Answer
+fn scrub_records(log: &mut [u8], header: Header) -> Scrubbed
     requires { ⌜ openedWithin longest (now log) ≡ passed header ⌝ }
     ensures { λ r. ⌜ scrubbingOf r ≡ scrubbing (now (log .entry)) ⌝ }
     ensures { λ r. ⌜ now (log .exit) ≡ bytesAfter (now (log .entry)) ⌝ }
 {
     let first = fdr::walk::start(header);
     let checked = check(log, first);
-    if let Answer::Scrubbed = checked {
+    if let Scrubbed::Clean = checked {
         zero(log, Record::HEADER_VISIBLE, Record::HEADER_SIZE);
         wipe(log, first);
     }
@@ -64,13 +64,13 @@ fn scrub_records(log: &mut [u8], header: Header) -> Answer
 }
 
 // Scrubs a log in place.
-pub fn scrub(log: &mut [u8]) -> Answer
+pub fn scrub(log: &mut [u8]) -> Scrubbed
     ensures { λ r. ⌜ scrubbingOf r ≡ scrubbing (now (log .entry)) ⌝ }
     ensures { λ r. ⌜ now (log .exit) ≡ bytesAfter (now (log .entry)) ⌝ }
 {
     let opened = fdr::header::open(log);
     match opened {
-        Opened::Refused(refusal) => Answer::Refused { refusal, place: 0 },
+        Opened::Refused(refusal) => Scrubbed::Refused { refusal, place: 0 },
         Opened::Passed(header) => scrub_records(log, header),
     }
 }

@@ -1,6 +1,6 @@
 -- What the numbers of the C interface mean. Assumes nothing.
 use Prim.Native.Nat.{ℕ}
-use Rattle.compare.specs.Compare.{Comparison, lower, equal, higher, refused}
+use Rattle.compare.specs.Compare.{Comparison, lower, equal, higher, incomparable}
 use Rattle.compare.specs.declared.Side.{Side}
 use Rattle.fdr.specs.Trace.{Ending, allPass, failsBy}
 
@@ -9,7 +9,7 @@ abbrev pub orderNumber : Comparison → ℕ
 orderNumber lower = 0
 orderNumber equal = 1
 orderNumber higher = 2
-orderNumber (refused n) = n
+orderNumber (incomparable n) = n
 
 -- "Comparison takes from each side frequency, constant_tsc, closed, backward and ticks."
 abbrev pub sideOf : ℕ → ℕ → ℕ → ℕ → ℕ → Side

@@ -5,7 +5,7 @@ ghost use Rattle.scrub.specs.Scrub.{scrubbing, bytesAfter};
 ghost use Rattle.towercloak.specs.Interface.{orderNumber, sideOf, scrubNumber, scrubPlace};
 use compare::Compared;
 use compare::Side;
-use scrub::Answer;
+use scrub::Scrubbed;
 
 // 0 lower, 1 equal, 2 higher, or the refusal's number, 17 or 18.
 #[no_mangle]
@@ -54,7 +54,7 @@ pub extern "C" fn towercloak_scrub(log: &mut [u8], place: &mut u64) -> u32
     ensures { λ _. ⌜ now (log .exit) ≡ bytesAfter (now (log .entry)) ⌝ }
 {
     let answer = scrub::scrub(log);
-    let Answer::Refused { refusal, place: at } = answer else {
+    let Scrubbed::Refused { refusal, place: at } = answer else {
         *place = 0;
         return 0;
     };

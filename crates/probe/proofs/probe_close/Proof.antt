@@ -1,8 +1,8 @@
 -- `probe::probe_close` meets its contract: one number of the writer's answer. Assumes nothing.
 use Rattle.probe.specs.Numbers.{outcomeNumbers}
-use Rattle.log_writer.specs.Start.{Outcome}
+use Rattle.log_writer.specs.Start.{Replying}
 use Rattle.log_writer.specs.declared.Writer.{Writer}
-use Rattle.log_writer.specs.Call.{closing, called, outputCalled}
+use Rattle.log_writer.specs.Call.{closing, calledOn, outputCalled}
 use lib.ListN.{length, getD}
 use mathlib.Core.List.{List}
 use Prim.Native.Nat.{ℕ}
@@ -27,9 +27,9 @@ returns : tie.Need-returns
 returns c =
     let out : List ℕ = c .before .before .before .before .before .before .before .args .out .now in
     let w = c .before .before .before .before .before .writer-of .ensures in
-    let answers = c .before .before .before .close .ensures .0 ∙ ap (λ (x : Writer). called x closing (length out)) w in
+    let answers = c .before .before .before .close .ensures .0 ∙ ap (λ (x : Writer). calledOn x closing (length out)) w in
     let leaves = c .before .before .before .close .ensures .1 ∙ ap (λ (x : Writer). outputCalled x closing out) w in
-    (c .answered .ensures ∙ ap (λ (x : Outcome). getD (outcomeNumbers x) (c .before .before .before .before .before .before .before .args .which) 0) answers, leaves)
+    (c .answered .ensures ∙ ap (λ (x : Replying). getD (outcomeNumbers x) (c .before .before .before .before .before .before .before .args .which) 0) answers, leaves)
 
 pub probe-close-spec : {M : Type 1} → statement M
 probe-close-spec =

@@ -1,8 +1,8 @@
 -- `probe::probe_open` meets its contract: one number of the writer's answer. Assumes nothing.
 use Rattle.probe.specs.Numbers.{outcomeNumbers}
-use Rattle.log_writer.specs.Start.{Outcome}
+use Rattle.log_writer.specs.Start.{Replying}
 use Rattle.log_writer.specs.declared.Writer.{Writer}
-use Rattle.log_writer.specs.Call.{opening, called, outputCalled}
+use Rattle.log_writer.specs.Call.{opening, calledOn, outputCalled}
 use lib.ListN.{length, getD}
 use mathlib.Core.List.{List}
 use Prim.Native.Nat.{ℕ, _%_, _^_}
@@ -33,9 +33,9 @@ returns : tie.Need-returns
 returns c =
     let out : List ℕ = c .before .before .before .before .before .before .before .args .out .now in
     let w = c .before .before .before .before .before .writer-of .ensures in
-    let answers = c .before .before .before .«open» .ensures .0 ∙ ap (λ (x : Writer). called x (opening (c .before .before .before .before .before .before .before .args .seconds) (c .before .before .before .before .before .before .before .args .micros % 2 ^ 32) (c .before .before .before .before .before .before .before .args .cpu % 2 ^ 16) (c .before .before .before .before .before .before .before .args .tsc)) (length out)) w in
+    let answers = c .before .before .before .«open» .ensures .0 ∙ ap (λ (x : Writer). calledOn x (opening (c .before .before .before .before .before .before .before .args .seconds) (c .before .before .before .before .before .before .before .args .micros % 2 ^ 32) (c .before .before .before .before .before .before .before .args .cpu % 2 ^ 16) (c .before .before .before .before .before .before .before .args .tsc)) (length out)) w in
     let leaves = c .before .before .before .«open» .ensures .1 ∙ ap (λ (x : Writer). outputCalled x (opening (c .before .before .before .before .before .before .before .args .seconds) (c .before .before .before .before .before .before .before .args .micros % 2 ^ 32) (c .before .before .before .before .before .before .before .args .cpu % 2 ^ 16) (c .before .before .before .before .before .before .before .args .tsc)) out) w in
-    (c .answered .ensures ∙ ap (λ (x : Outcome). getD (outcomeNumbers x) (c .before .before .before .before .before .before .before .args .which) 0) answers, leaves)
+    (c .answered .ensures ∙ ap (λ (x : Replying). getD (outcomeNumbers x) (c .before .before .before .before .before .before .before .args .which) 0) answers, leaves)
 
 pub probe-open-spec : {M : Type 1} → statement M
 probe-open-spec =

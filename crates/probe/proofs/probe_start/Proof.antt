@@ -1,6 +1,6 @@
 -- `probe::probe_start` meets its contract: one number of the writer's answer. Assumes nothing.
 use Rattle.probe.specs.Numbers.{outcomeNumbers}
-use Rattle.log_writer.specs.Start.{Outcome}
+use Rattle.log_writer.specs.Start.{Replying}
 use lib.ListN.{getD}
 use mathlib.Core.Path.{ap, _∙_}
 use borrow.Author.Needs.{needs}
@@ -20,7 +20,7 @@ same-length : tie.Need-same-length
 same-length c = search needs
 
 returns : tie.Need-returns
-returns c = (c .answered .ensures ∙ ap (λ (x : Outcome). getD (outcomeNumbers x) (c .before .before .before .before .before .before .args .which) 0) (c .before .before .before .start .ensures .0), c .before .before .before .start .ensures .1)
+returns c = (c .answered .ensures ∙ ap (λ (x : Replying). getD (outcomeNumbers x) (c .before .before .before .before .before .before .args .which) 0) (c .before .before .before .start .ensures .0), c .before .before .before .start .ensures .1)
 
 pub probe-start-spec : {M : Type 1} → statement M
 probe-start-spec =

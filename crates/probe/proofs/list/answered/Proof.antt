@@ -1,7 +1,7 @@
 -- `probe::list::answered` meets its contract: the list is six numbers long. Assumes nothing.
 use Rattle.probe.proofs.Lists.{past, outcome-long}
 use Rattle.probe.specs.Numbers.{outcomeNumbers}
-use Rattle.log_writer.specs.Start.{outcomeOf}
+use Rattle.log_writer.specs.Start.{replyingOf}
 use lib.ListN.{getD}
 use mathlib.Core.List.{List}
 use Prim.Native.Nat.{ℕ}
@@ -23,7 +23,7 @@ returns : tie.Need-returns
 returns c = ap (λ (l : List ℕ). getD l (c .before .before .args .which) 0) (c .before .outcome-numbers .ensures)
 
 returns-2 : tie.Need-returns-2
-returns-2 c = let v = outcomeOf (c .before .before .args .answer) in
+returns-2 c = let v = replyingOf (c .before .before .args .answer) in
     past (outcomeNumbers v) 6 (c .before .before .args .which) (outcome-long v) (c .if1 .left)
 
 pub answered-spec : {M : Type 1} → statement M

@@ -1,7 +1,7 @@
 -- `probe::list::outcome_numbers` meets its contract: case by case. Assumes nothing.
 use Rattle.probe.specs.Numbers.{outcomeNumbers}
-use Rattle.log_writer.specs.declared.Answer.{Answer}
-use Rattle.log_writer.specs.Start.{outcomeOf}
+use Rattle.log_writer.specs.declared.Reply.{Reply}
+use Rattle.log_writer.specs.Start.{replyingOf}
 use mathlib.Core.List.{[], _∷_}
 use Prim.Native.Nat.{ℕ}
 use mathlib.Core.Path.{sym, ap, _∙_}
@@ -25,10 +25,10 @@ number-requires : tie.Need-number-requires
 number-requires c κs = search needs
 
 returns : tie.Need-returns
-returns c = ap (λ (n : ℕ). 0 ∷ c .before .before .before .answer .given .0 .0 .size ∷ c .before .before .before .answer .given .0 .0 .thread ∷ c .before .before .before .answer .given .0 .0 .place ∷ c .before .before .before .answer .given .0 .0 .end ∷ n ∷ []) (c .before .stage-number .ensures) ∙ sym (ap (λ (x : Answer). outcomeNumbers (outcomeOf x)) (c .before .before .before .answer .given .1))
+returns c = ap (λ (n : ℕ). 0 ∷ c .before .before .before .answer .given .0 .0 .size ∷ c .before .before .before .answer .given .0 .0 .thread ∷ c .before .before .before .answer .given .0 .0 .place ∷ c .before .before .before .answer .given .0 .0 .end ∷ n ∷ []) (c .before .stage-number .ensures) ∙ sym (ap (λ (x : Reply). outcomeNumbers (replyingOf x)) (c .before .before .before .answer .given .1))
 
 returns-2 : tie.Need-returns-2
-returns-2 c = ap (λ (n : ℕ). n ∷ 0 ∷ 0 ∷ 0 ∷ 0 ∷ 0 ∷ []) (c .number .ensures) ∙ sym (ap (λ (x : Answer). outcomeNumbers (outcomeOf x)) (c .before .before .answer2 .given .1))
+returns-2 c = ap (λ (n : ℕ). n ∷ 0 ∷ 0 ∷ 0 ∷ 0 ∷ 0 ∷ []) (c .number .ensures) ∙ sym (ap (λ (x : Reply). outcomeNumbers (replyingOf x)) (c .before .before .answer2 .given .1))
 
 pub outcome-numbers-spec : {M : Type 1} → statement M
 outcome-numbers-spec =

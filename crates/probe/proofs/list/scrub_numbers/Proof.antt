@@ -1,6 +1,6 @@
 -- `probe::list::scrub_numbers` meets its contract: case by case. Assumes nothing.
 use Rattle.probe.specs.Numbers.{scrubbingNumbers}
-use Rattle.scrub.specs.declared.Answer.{Answer}
+use Rattle.scrub.specs.declared.Scrubbed.{Scrubbed}
 use Rattle.scrub.specs.Scrub.{scrubbingOf}
 use mathlib.Core.List.{[], _∷_}
 use Prim.Native.Nat.{ℕ}
@@ -22,7 +22,7 @@ returns : tie.Need-returns
 returns c = search needs
 
 returns-2 : tie.Need-returns-2
-returns-2 c = ap (λ (n : ℕ). n ∷ c .before .before .answer .given .0 .1 .0 ∷ []) (c .number .ensures) ∙ sym (ap (λ (x : Answer). scrubbingNumbers (scrubbingOf x)) (c .before .before .answer .given .1))
+returns-2 c = ap (λ (n : ℕ). n ∷ c .before .before .answer .given .0 .1 .0 ∷ []) (c .number .ensures) ∙ sym (ap (λ (x : Scrubbed). scrubbingNumbers (scrubbingOf x)) (c .before .before .answer .given .1))
 
 pub scrub-numbers-spec : {M : Type 1} → statement M
 scrub-numbers-spec =

@@ -5,7 +5,7 @@ use Rattle.fdr.proofs.Tracing.{forward}
 use Rattle.fdr.proofs.Records.{sized-some}
 use Rattle.fdr.specs.Hidden.{hiddenIn}
 use Rattle.fdr.specs.Trace.{traceFrom}
-use Rattle.fdr.specs.Walk.{went, steppingOf, next}
+use Rattle.fdr.specs.Walk.{onward, steppingOf, next}
 use borrow.Author.Needs.{needs}
 use lib.ListN.{length}
 use Prim.Native.Nat.{_-_}
@@ -21,7 +21,7 @@ abbrev μ-loop : tie.MeasureT-loop
 μ-loop log₀ at₀ log at = length log - at .place
 
 -- At a record that the walk found.
-found : (c : tie.After-step Inv-loop μ-loop) → next (c .before .before .before .before .loop .log) (c .before .before .before .before .loop .at) ≡ went (c .step .given .0 .0) (c .step .given .0 .1 .0)
+found : (c : tie.After-step Inv-loop μ-loop) → next (c .before .before .before .before .loop .log) (c .before .before .before .before .loop .at) ≡ onward (c .step .given .0 .0) (c .step .given .0 .1 .0)
 found c = sym (c .before .before .next .ensures) ∙ ap steppingOf (c .step .given .1)
 
 loop-holds : tie.Need-loop-holds Inv-loop μ-loop
