@@ -13,7 +13,7 @@ static const char *const rules[] = {
     [3] = "type is not 1",
     [4] = "bytes follow the header, and buffer_size is under 64 or doesn't divide their number",
     [5] = "no byte is left in the buffer for a record, or a record or its event runs past the buffer's end",
-    [6] = "a record's action is above 3 or its kind above 6",
+    [6] = "a function record's action is above 3",
     [7] = "a record may not stand here",
     [8] = "a buffer names another thread than the first",
     [9] = "the clock would pass 2^64 - 1",
@@ -24,6 +24,7 @@ static const char *const rules[] = {
     [14] = "the lent table has under 6,144 numbers",
     [17] = "a side's frequency or constant_tsc is 0: its ticks have no unit",
     [18] = "a side has no measured call: closed is not above backward",
+    [19] = "a metadata record's kind is above 6",
 };
 
 const char *rule(uint32_t number) {

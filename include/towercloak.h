@@ -53,12 +53,12 @@ uint32_t towercloak_compare(uint64_t frequency_a, uint64_t constant_tsc_a, uint6
 
 /* Scrubs the log in these length bytes, in place.
  *
- * 0       it was well-formed. Now its hidden bytes are 0: header bytes 24 to 31, every reserved or unused
- *         byte of a record, the arguments of calls, the bytes of events, and the skipped rest of each
- *         buffer. All others are as they were, and *place is 0.
- * 1 to 8  it was refused by the rule of this number. All its bytes are as they were, and *place is where:
- *         the offset of the refused record's first byte, or of the buffer's end where no byte is left for
- *         a record, and 0 for 1 to 4.
+ * 0           it was well-formed. Now its hidden bytes are 0: header bytes 24 to 31, every reserved or unused
+ *             byte of a record, the arguments of calls, the bytes of events, and the skipped rest of each
+ *             buffer. All others are as they were, and *place is 0.
+ * 1 to 8, 19  it was refused by the rule of this number. All its bytes are as they were, and *place is where:
+ *             the offset of the refused record's first byte, or of the buffer's end where no byte is left for
+ *             a record, and 0 for 1 to 4.
  *
  * place must point to one number, which is written whatever the answer.
  */
@@ -66,13 +66,13 @@ uint32_t towercloak_scrub(uint8_t *log, size_t length, uint64_t *place);
 
 /* Replays the log in these length bytes: what its call stack did, for each function, in the lent table.
  *
- * 0        Each function that was entered has a row of six numbers, in the order of first entry: its id, how
- *          often it was entered, closed, closed backward (the clock at the exit was below that at the entry;
- *          also counted as closed) and abandoned (a call below it was closed first), and the sum of its ticks.
- *          Row i starts at table[i * TOWERCLOAK_ROW]. *rows, *buffers, *records and *open are the numbers of
- *          rows, buffers, records and calls still open, and *place is 0.
- * 1 to 14  It was refused by the rule of this number. The four counts are 0, and *place is where: as for the
- *          scrubber, and 0 for 14.
+ * 0            Each function that was entered has a row of six numbers, in the order of first entry: its id, how
+ *              often it was entered, closed, closed backward (the clock at the exit was below that at the entry;
+ *              also counted as closed) and abandoned (a call below it was closed first), and the sum of its ticks.
+ *              Row i starts at table[i * TOWERCLOAK_ROW]. *rows, *buffers, *records and *open are the numbers of
+ *              rows, buffers, records and calls still open, and *place is 0.
+ * 1 to 14, 19  It was refused by the rule of this number. The four counts are 0, and *place is where: as for the
+ *              scrubber, and 0 for 14.
  *
  * numbers is how many the table has: 14 is fewer than TOWERCLOAK_TABLE, and the table is then untouched. Else
  * its first TOWERCLOAK_TABLE numbers are written, rows and then zeros, or zeros alone where the log is refused;

@@ -17,7 +17,7 @@ use Rattle.replay.specs.Replay.{Verdict, refusal, answer}
 use Rattle.scrub.specs.Scrub.{zeroed, bytesAfter}
 use Rattle.scrub.proofs.Zeroing.{kept, length-zeroed, getD-zeroed, zeroed-same}
 use Rattle.fdr.proofs.Tracing.{all-pass}
-use Rattle.demands.specs.Demand3.{Alike, Demand3, OverwrittenBefore, SameRefusal, Ran, RanAlike}
+use Rattle.demands.specs.Demand3.{Alike, Demand3, OverwrittenBefore, SameRefusal, SameKind, Ran, RanAlike}
 use Rattle.demands.proofs.Shown.{same-answer, same-table}
 
 scrubbed-copy : (s : List ℕ) → wellFormed s ≡ true → bytesAfter s ≡ zeroed (hidden s) s
@@ -61,6 +61,9 @@ sameRefusal s t a b n place one e o lb =
         by-lt (length a) cells
         (λ l. let short : answer s a ≡ refusal 14 0 = rw (lt-ltb (length a) cells l, answer) in let f : n ≡ 14 = cc in absurd (true≢false (sym one ∙ rw f)))
         (λ l. le-ltb (length a) cells l)
+
+pub sameKind : SameKind
+sameKind s t a b place = sameRefusal s t a b 19 place refl
 
 -- Demand 3 of what the functions answer and leave.
 pub ran-alike : (s t a b : List ℕ) (v w : Verdict) (u n : List ℕ) (c d : Ending) (x y : List ℕ) → Ran s a v u c x → Ran t b w n d y → wellFormed s ≡ true → Overwritten s t → RanAlike s t a b v w u n c d x y

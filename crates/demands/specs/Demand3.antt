@@ -47,6 +47,10 @@ pub record OverwrittenBefore (place : ℕ) (s t : List ℕ) : Type 0 where
 abbrev pub SameRefusal : Type 0
 SameRefusal = (s t a b : List ℕ) (n place : ℕ) → isIn n atRecord ≡ true → answer s a ≡ refusal n place → OverwrittenBefore place s t → cells ≤ length b → answer t b ≡ refusal n place
 
+-- CR 2: "refused logs treat 19 as 6"
+abbrev pub SameKind : Type 0
+SameKind = (s t a b : List ℕ) (place : ℕ) → answer s a ≡ refusal 19 place → OverwrittenBefore place s t → cells ≤ length b → answer t b ≡ refusal 19 place
+
 -- What `replay` and `scrub` answer and leave of one log, by their contracts: the verdict, the table, the scrubber's
 -- answer and the bytes.
 pub record Ran (s table : List ℕ) (v : Verdict) (u : List ℕ) (c : Ending) (x : List ℕ) : Type 0 where

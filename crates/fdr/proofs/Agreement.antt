@@ -52,7 +52,7 @@ module _ (s t : List ℕ) (p : ℕ) (same : Agree s t p (p + 16)) where
       of : ℕ → Record → List Decoded → Decoded
       of b f l = elim (isFunction b) [
         | true ↦ elim (leb (actionIn b) 3) [ true ↦ known f | false ↦ unknown 6 ]
-        | false ↦ getD l (kindIn b) (unknown 6)
+        | false ↦ getD l (kindIn b) (unknown 19)
       ]
 
 -- Two logs of one length that agree from a place on.

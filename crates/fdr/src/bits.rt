@@ -4,13 +4,14 @@ ghost use mathlib.Core.Path.{_≡_};
 ghost use Rattle.fdr.specs.Bits.{isFunction, kindIn, actionIn, idIn, constantTscIn, nonstopTscIn};
 ghost use Rattle.fdr.specs.Private.{toldBy};
 use crate::record::Record;
+use refusal::Refusal;
 
-// What a first byte tells: the action of a function record, the kind of a metadata record, or that no record
-// starts with it.
+// What a first byte tells: the action of a function record, the kind of a metadata record, or the refusal where no
+// record starts with it.
 pub enum First {
     Action(u8),
     Kind(u8),
-    Strange,
+    Strange(Refusal),
 }
 
 pub fn is_function(first: u8) -> bool
@@ -57,12 +58,12 @@ pub fn told_by(first: u8) -> First
         if action <= Record::ENTRY_ARGS {
             return First::Action(action);
         }
-        return First::Strange;
+        return First::Strange(Refusal::UnknownAction);
     }
     let kind = kind_in(first);
     if kind <= Record::CALL_ARGUMENT {
         First::Kind(kind)
     } else {
-        First::Strange
+        First::Strange(Refusal::UnknownKind)
     }
 }

@@ -3,15 +3,15 @@ use Prim.Native.Nat.{_≤_}
 use lib.Dec.{lit≤}
 use Rattle.refusal.specs.Refusal.{numberOf}
 use Rattle.refusal.specs.declared.Refusal.{Refusal}
-use Rattle.refusal.specs.declared.Refusal.the-variants.{LogLength, Version, LogType, BufferSize, PastEnd, Unknown, Grammar, Thread, Clock, NoOpenCall, Depth, FunctionCount, Ticks, ShortTable, NoRoom, OutOfRange, NoUnit, NoMeasuredCall}
+use Rattle.refusal.specs.declared.Refusal.the-variants.{LogLength, Version, LogType, BufferSize, PastEnd, UnknownAction, Grammar, Thread, Clock, NoOpenCall, Depth, FunctionCount, Ticks, ShortTable, NoRoom, OutOfRange, NoUnit, NoMeasuredCall, UnknownKind}
 
-pub number-most : (x : Refusal) → numberOf x ≤ 18
+pub number-most : (x : Refusal) → numberOf x ≤ 19
 number-most LogLength = lit≤ tt
 number-most Version = lit≤ tt
 number-most LogType = lit≤ tt
 number-most BufferSize = lit≤ tt
 number-most PastEnd = lit≤ tt
-number-most Unknown = lit≤ tt
+number-most UnknownAction = lit≤ tt
 number-most Grammar = lit≤ tt
 number-most Thread = lit≤ tt
 number-most Clock = lit≤ tt
@@ -24,3 +24,4 @@ number-most NoRoom = lit≤ tt
 number-most OutOfRange = lit≤ tt
 number-most NoUnit = lit≤ tt
 number-most NoMeasuredCall = lit≤ tt
+number-most UnknownKind = lit≤ tt

@@ -1,7 +1,7 @@
--- The numbered refusals (paper 01, "The numbered refusals"). Assumes nothing.
+-- The numbered refusals (paper 01, "The numbered refusals"; paper 02, CR 2). Assumes nothing.
 use Prim.Native.Nat.{ℕ}
 use Rattle.refusal.specs.declared.Refusal.{Refusal}
-use Rattle.refusal.specs.declared.Refusal.the-variants.{LogLength, Version, LogType, BufferSize, PastEnd, Unknown, Grammar, Thread, Clock, NoOpenCall, Depth, FunctionCount, Ticks, ShortTable, NoRoom, OutOfRange, NoUnit, NoMeasuredCall}
+use Rattle.refusal.specs.declared.Refusal.the-variants.{LogLength, Version, LogType, BufferSize, PastEnd, UnknownAction, Grammar, Thread, Clock, NoOpenCall, Depth, FunctionCount, Ticks, ShortTable, NoRoom, OutOfRange, NoUnit, NoMeasuredCall, UnknownKind}
 
 -- The paper's number of each.
 abbrev pub numberOf : Refusal → ℕ
@@ -10,7 +10,7 @@ numberOf Version = 2
 numberOf LogType = 3
 numberOf BufferSize = 4
 numberOf PastEnd = 5
-numberOf Unknown = 6
+numberOf UnknownAction = 6
 numberOf Grammar = 7
 numberOf Thread = 8
 numberOf Clock = 9
@@ -23,3 +23,4 @@ numberOf NoRoom = 15
 numberOf OutOfRange = 16
 numberOf NoUnit = 17
 numberOf NoMeasuredCall = 18
+numberOf UnknownKind = 19

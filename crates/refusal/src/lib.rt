@@ -8,7 +8,7 @@ pub enum Refusal {
     LogType,
     BufferSize,
     PastEnd,
-    Unknown,
+    UnknownAction,
     Grammar,
     Thread,
     Clock,
@@ -21,6 +21,7 @@ pub enum Refusal {
     OutOfRange,
     NoUnit,
     NoMeasuredCall,
+    UnknownKind,
 }
 
 impl Refusal {
@@ -33,7 +34,7 @@ impl Refusal {
             Refusal::LogType => 3,
             Refusal::BufferSize => 4,
             Refusal::PastEnd => 5,
-            Refusal::Unknown => 6,
+            Refusal::UnknownAction => 6,
             Refusal::Grammar => 7,
             Refusal::Thread => 8,
             Refusal::Clock => 9,
@@ -46,6 +47,7 @@ impl Refusal {
             Refusal::OutOfRange => 16,
             Refusal::NoUnit => 17,
             Refusal::NoMeasuredCall => 18,
+            Refusal::UnknownKind => 19,
         }
     }
 }

@@ -16,8 +16,8 @@ fn sound_kinds_are_well_formed() {
 }
 
 /// Refusals of some logs of a kind, by number; index 0 counts accepted logs.
-fn refusals(kind: Kind, logs: u64) -> [u64; 14] {
-    let mut counts = [0; 14];
+fn refusals(kind: Kind, logs: u64) -> [u64; 20] {
+    let mut counts = [0; 20];
     let mut table = vec![0; TABLE];
     for seed in 0..logs {
         match replay(&calls::log(kind, seed), &mut table) {
@@ -54,7 +54,7 @@ fn kinds_meet_what_they_are_made_for() {
         assert!(counts[number] > 5, "{counts:?}");
     }
     let counts = refusals(Kind::Ungrammatical, 1000);
-    for number in [5, 6, 7, 8] {
+    for number in [5, 6, 7, 8, 19] {
         assert!(counts[number] > 5, "{counts:?}");
     }
 }

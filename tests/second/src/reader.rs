@@ -1,5 +1,6 @@
 //! The record reader. Paper 01, "Bytes of a log": "The record reader is given
-//! the log, a buffer's end and a place. It tests 5, 6, 5, 5 and no grammar".
+//! the log, a buffer's end and a place. It tests 5, 6, 5, 5 and no grammar", and
+//! 19 where it tests 6 (paper 02, CR 2).
 
 use crate::record::{decode, Family, Record};
 
@@ -35,7 +36,7 @@ pub fn event(log: &[u8], end: u64, place: u64) -> &[u8] {
     }
 }
 
-/// The first three tests: 5 (no byte left), 6, 5 (the record).
+/// The first three tests: 5 (no byte left), 6 or 19, 5 (the record).
 pub fn record(log: &[u8], end: u64, place: u64) -> Result<Record, u8> {
     // "An end past the log, or a place at or past the end, is 5."
     if end > log.len() as u64 || place >= end {
@@ -43,9 +44,9 @@ pub fn record(log: &[u8], end: u64, place: u64) -> Result<Record, u8> {
     }
     // From here on both numbers are at most the log's length.
     let left = &log[place as usize..end as usize];
-    // The family shows in the first byte: 6 comes even where one byte is left.
-    if !Family::of(left[0]).is_known() {
-        return Err(6);
+    // The family shows in the first byte: 6 or 19 comes even where one byte is left.
+    if let Some(number) = Family::of(left[0]).strange() {
+        return Err(number);
     }
     // The family is known, so only too few bytes can be missing.
     decode(left).ok_or(5)

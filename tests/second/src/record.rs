@@ -53,12 +53,11 @@ impl Family {
         }
     }
 
-    /// Paper 01, "The numbered refusals": an action above 3 or a kind above 6
-    /// is refusal 6.
-    pub fn is_known(self) -> bool {
+    /// Paper 02, CR 2: "6 is an action above 3 and a new 19 is a kind above 6".
+    pub fn strange(self) -> Option<u8> {
         match self {
-            Family::Function(action) => action <= 3,
-            Family::Metadata(kind) => kind <= 6,
+            Family::Function(action) => (action > 3).then_some(6),
+            Family::Metadata(kind) => (kind > 6).then_some(19),
         }
     }
 

@@ -54,7 +54,7 @@ pub struct Part {
 const RESERVED: Range<usize> = 24..32;
 
 /// The hidden bytes of a log, by their places and without empty parts. Takes
-/// any log: where one of the refusals 1 to 8 applies, no more records follow.
+/// any log: where one of the refusals 1 to 8 and 19 applies, no more records follow.
 pub fn hidden(log: &[u8]) -> Vec<Part> {
     let mut parts = vec![Part {
         kind: Kind::Header,

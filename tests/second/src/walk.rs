@@ -1,6 +1,6 @@
 //! The walk from record to record, with the grammar. Paper 01, "Bytes of a
 //! log" for the grammar and "The numbered refusals" for the order of tests:
-//! 5 (no byte left), 6, 5 (the record), 7, 5 (its event), 8.
+//! 5 (no byte left), 6 or 19, 5 (the record), 7, 5 (its event), 8.
 
 use crate::header::{self, Header};
 use crate::reader;
