@@ -162,7 +162,7 @@ fn refusals_1_to_4_change_nothing() {
 }
 
 #[test]
-fn refusals_5_to_8_change_nothing() {
+fn refusals_5_to_8_and_19_change_nothing() {
     // No byte is left, where another buffer follows.
     let open = [
         header(64),
@@ -177,7 +177,7 @@ fn refusals_5_to_8_change_nothing() {
     // An event up to the end.
     refused(&log(96, &[&event(32)]), 5, 128);
     refused(&log(96, &[&ENTRY, &[0x58; 8], &END]), 6, 88);
-    refused(&log(96, &[&ENTRY, &[15; 8], &END]), 6, 88);
+    refused(&log(96, &[&ENTRY, &[15; 8], &END]), 19, 88);
     refused(&log(104, &[&ENTRY, &argument(), &END]), 7, 88);
     let other = [header(64), buffer(64, 7, &[&END]), buffer(64, 8, &[&END])].concat();
     refused(&other, 8, 96);

@@ -183,7 +183,7 @@ fn an_unknown_record_with_one_byte_left() {
     let body = [event(47), vec![0x08]].concat();
     assert_eq!(outcome(&log(112, &[&body])), refused(6, 143));
     let body = [event(47), vec![0x0F]].concat();
-    assert_eq!(outcome(&log(112, &[&body])), refused(6, 143));
+    assert_eq!(outcome(&log(112, &[&body])), refused(19, 143));
     let body = [event(47), vec![0x0D]].concat();
     assert_eq!(outcome(&log(112, &[&body])), refused(5, 143));
 }
