@@ -1,26 +1,21 @@
 -- A log that starts with a header's bytes opens with that header. Assumes nothing.
 use Prim.Native.Nat.{ℕ, _+_, _-_, _%_, _^_, _<_, _≤_}
 use mathlib.Core.Path.{_≡_, refl, sym, ap, _∙_}
-use mathlib.Core.Bool.{Bool, true, false, not, cond, _&&_, _||_}
+use mathlib.Core.Bool.{Bool, true, false, not, _&&_, _||_}
 use mathlib.Core.List.{List}
 use native.Mathlib.Omega.{arith}
 use borrow.Author.Tests.{le-ltb, eq-eqb}
 use lib.Dec.{lit≤, ltb, eqb}
 use lib.ListN.{length}
 use Rattle.fdr.specs.Number.{byteAt, number, bytesOf, zeros}
-use Rattle.fdr.specs.Bits.{bitfieldOf, constantTscIn, nonstopTscIn}
+use Rattle.fdr.specs.Bits.{bitfieldOf}
 use Rattle.fdr.specs.Encoded.{headerBytes}
 use Rattle.fdr.specs.Header.{passed, headerOf, openedWithin, longest}
 use Rattle.fdr.proofs.Numbers.{number-agree}
+use Rattle.fdr.proofs.BitPlaces.{flags-back}
 use Rattle.record_writer.proofs.Bytes.{number-bytes}
 use Rattle.fdr.proofs.Opening.{sizesRight, opens}
 use Rattle.demands.specs.Demand2.{fixed}
-
-bits-back : (constant nonstop : Bool) → (constantTscIn (bitfieldOf constant nonstop) ≡ cond constant 1 0) × (nonstopTscIn (bitfieldOf constant nonstop) ≡ cond nonstop 1 0) × (bitfieldOf constant nonstop < 256 ^ 4)
-bits-back true true = (refl, refl, lit≤ tt)
-bits-back true false = (refl, refl, lit≤ tt)
-bits-back false true = (refl, refl, lit≤ tt)
-bits-back false false = (refl, refl, lit≤ tt)
 
 module _ (frequency : ℕ) (constant nonstop : Bool) (size : ℕ) where
   abbrev pub heading : List ℕ
@@ -46,7 +41,7 @@ module _ (frequency : ℕ) (constant nonstop : Bool) (size : ℕ) where
 
     bitfield-back : number 4 s 4 ≡ bitfieldOf constant nonstop
     unfolding number bytesOf headerBytes
-    bitfield-back = part 4 4 (lit≤ tt) ∙ number-bytes 4 (bitfieldOf constant nonstop) (bits-back constant nonstop .2)
+    bitfield-back = part 4 4 (lit≤ tt) ∙ number-bytes 4 (bitfieldOf constant nonstop) (flags-back constant nonstop .2)
 
     frequency-back : number 8 s 8 ≡ frequency
     unfolding number bytesOf headerBytes
@@ -59,7 +54,7 @@ module _ (frequency : ℕ) (constant nonstop : Bool) (size : ℕ) where
     header-back : headerOf s ≡ fixed frequency constant nonstop size
     unfolding headerOf
     header-back =
-        let (c, n, small) = bits-back constant nonstop in
+        let (c, n, small) = flags-back constant nonstop in
         rw (bitfield-back, frequency-back, size-back, c, n)
 
     sizes-right : sizesRight s size ≡ true

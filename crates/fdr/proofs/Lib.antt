@@ -1,5 +1,6 @@
 pub mod Refusals
 pub mod Numbers
+pub mod BitPlaces
 pub mod Records
 pub mod Decoding
 pub mod Opening

@@ -65,8 +65,8 @@ module _ (s t : List ℕ) (p : ℕ) where
   decoded-kept : byteAt s p ≡ byteAt t p → Kept (decoded s p) (decoded t p)
   decoded-kept first =
       by-family s p (λ d. Kept d (decoded t p)) tt
-      (λ even l. rw (decoded-function t p (rw first at even) (rw first at l)) function-kept)
-      (λ odd. rw (decoded-metadata t p (rw first at odd), sym first) (metadata-kept (kindIn (byteAt s p))))
+      (λ f l. rw (decoded-function t p (rw first at f) (rw first at l)) function-kept)
+      (λ m. rw (decoded-metadata t p (rw first at m), sym first) (metadata-kept (kindIn (byteAt s p))))
 
   pub decoded-visible : (r : Record) → decoded s p ≡ known r → Agree s t p (p + visible r) → Like r (decoded t p)
   decoded-visible r e same = subst (λ (d : Decoded). Kept d (decoded t p)) e (decoded-kept (same p (omega arith) (omega (arith, visible-some r)))) same

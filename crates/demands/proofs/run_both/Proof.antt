@@ -4,6 +4,13 @@ use borrow.Author.Needs.{needs}
 use Rattle.demands.proofs.run_both.Statement.{statement}
 use Rattle.demands.proofs.run_both.Tie as tie
 
+-- Behind both runs: the second, and the first.
+abbrev second : tie.After-slice-known8 → tie.After-run2
+second c = c .before .before .before .before
+
+abbrev first : tie.After-slice-known8 → tie.After-run
+first c = second c .before .before .before .before .before .before .before
+
 run-requires : tie.Need-run-requires
 run-requires c κs = search needs
 
@@ -24,8 +31,8 @@ same-length-4 c = search needs
 
 returns : tie.Need-returns
 returns c =
-    let f = c .before .before .before .before .before .before .before .before .before .before .before .run .ensures in
-    let g = c .before .before .before .before .run2 .ensures in
+    let f = first c .run .ensures in
+    let g = second c .run2 .ensures in
     (f, (g, λ well o. ran-alike _ _ _ _ _ _ _ _ _ _ _ _ f g well o))
 
 pub run-both-spec : {M : Type 1} → statement M

@@ -8,6 +8,10 @@ use borrow.Author.Needs.{needs}
 use Rattle.desk.proofs.towercloak_replay.Statement.{statement}
 use Rattle.desk.proofs.towercloak_replay.Tie as tie
 
+-- Behind a refusal's number, the replay.
+abbrev ran : tie.After-number → tie.After-replay
+ran c = c .before .before .before .before .before .before
+
 replay-requires : tie.Need-replay-requires
 replay-requires c κs = search needs
 
@@ -37,7 +41,7 @@ same-length-2 c = search needs
 
 returns-2 : tie.Need-returns-2
 returns-2 c =
-    let replayed = c .before .before .before .before .before .before .replay .ensures in
+    let replayed = ran c .replay .ensures in
     let e = sym (replayed .0) ∙ ap verdictOf (c .before .before .answer2 .given .1) in
     (c .number .ensures ∙ sym (ap replayNumber e), (sym (ap countsOf e), (sym (ap replayPlace e), replayed .1 .0)))
 

@@ -12,6 +12,16 @@ use borrow.Author.Needs.{needs}
 use Rattle.probe.proofs.probe_add.Statement.{statement}
 use Rattle.probe.proofs.probe_add.Tie as tie
 
+-- The writer answered: its call, the record that it was given, and the start.
+abbrev added : tie.After-answered → tie.After-add
+added c = c .before .before .before
+
+abbrev made : tie.After-answered → tie.After-record-of
+made c = added c .before .before
+
+abbrev start : tie.After-answered → tie.Start
+start c = made c .before .before .before .before
+
 writer-of-requires : tie.Need-writer-of-requires
 writer-of-requires c κs = search needs
 
@@ -29,11 +39,12 @@ same-length c = search needs
 
 returns : tie.Need-returns
 returns c =
-    let out : List ℕ = c .before .before .before .before .before .before .before .before .before .args .out .now in
-    let w = c .before .before .before .before .before .before .writer-of .ensures in
-    let answers = c .before .before .before .add .ensures .0 ∙ ap (λ (x : Writer). calledOn x (adding (c .before .before .before .before .before .record-of .result) (c .before .before .before .before .before .before .before .before .before .args .event .now)) (length out)) w ∙ ap (λ (x : Record). calledOn (writerOf (c .before .before .before .before .before .before .before .before .before .args .size) (c .before .before .before .before .before .before .before .before .before .args .thread) (c .before .before .before .before .before .before .before .before .before .args .place) (c .before .before .before .before .before .before .before .before .before .args .end) (c .before .before .before .before .before .before .before .before .before .args .stage)) (adding x (c .before .before .before .before .before .before .before .before .before .args .event .now)) (length out)) (c .before .before .before .before .before .record-of .ensures) in
-    let leaves = c .before .before .before .add .ensures .1 ∙ ap (λ (x : Writer). outputCalled x (adding (c .before .before .before .before .before .record-of .result) (c .before .before .before .before .before .before .before .before .before .args .event .now)) out) w ∙ ap (λ (x : Record). outputCalled (writerOf (c .before .before .before .before .before .before .before .before .before .args .size) (c .before .before .before .before .before .before .before .before .before .args .thread) (c .before .before .before .before .before .before .before .before .before .args .place) (c .before .before .before .before .before .before .before .before .before .args .end) (c .before .before .before .before .before .before .before .before .before .args .stage)) (adding x (c .before .before .before .before .before .before .before .before .before .args .event .now)) out) (c .before .before .before .before .before .record-of .ensures) in
-    (c .answered .ensures ∙ ap (λ (x : Replying). getD (outcomeNumbers x) (c .before .before .before .before .before .before .before .before .before .args .which) 0) answers, leaves)
+    let a = start c .args in
+    let r = made c .record-of in
+    let w = made c .before .writer-of .ensures in
+    let answers = added c .add .ensures .0 ∙ ap (λ (x : Writer). calledOn x (adding (r .result) (a .event .now)) (length (a .out .now))) w ∙ ap (λ (x : Record). calledOn (writerOf (a .size) (a .thread) (a .place) (a .end) (a .stage)) (adding x (a .event .now)) (length (a .out .now))) (r .ensures) in
+    let leaves = added c .add .ensures .1 ∙ ap (λ (x : Writer). outputCalled x (adding (r .result) (a .event .now)) (a .out .now)) w ∙ ap (λ (x : Record). outputCalled (writerOf (a .size) (a .thread) (a .place) (a .end) (a .stage)) (adding x (a .event .now)) (a .out .now)) (r .ensures) in
+    (c .answered .ensures ∙ ap (λ (x : Replying). getD (outcomeNumbers x) (a .which) 0) answers, leaves)
 
 pub probe-add-spec : {M : Type 1} → statement M
 probe-add-spec =

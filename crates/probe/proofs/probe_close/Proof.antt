@@ -11,6 +11,13 @@ use borrow.Author.Needs.{needs}
 use Rattle.probe.proofs.probe_close.Statement.{statement}
 use Rattle.probe.proofs.probe_close.Tie as tie
 
+-- The writer answered: its call, and the start.
+abbrev closed : tie.After-answered → tie.After-close
+closed c = c .before .before .before
+
+abbrev start : tie.After-answered → tie.Start
+start c = closed c .before .before .before .before
+
 writer-of-requires : tie.Need-writer-of-requires
 writer-of-requires c κs = search needs
 
@@ -25,11 +32,11 @@ same-length c = search needs
 
 returns : tie.Need-returns
 returns c =
-    let out : List ℕ = c .before .before .before .before .before .before .before .args .out .now in
-    let w = c .before .before .before .before .before .writer-of .ensures in
-    let answers = c .before .before .before .close .ensures .0 ∙ ap (λ (x : Writer). calledOn x closing (length out)) w in
-    let leaves = c .before .before .before .close .ensures .1 ∙ ap (λ (x : Writer). outputCalled x closing out) w in
-    (c .answered .ensures ∙ ap (λ (x : Replying). getD (outcomeNumbers x) (c .before .before .before .before .before .before .before .args .which) 0) answers, leaves)
+    let a = start c .args in
+    let w = closed c .before .before .writer-of .ensures in
+    let answers = closed c .close .ensures .0 ∙ ap (λ (x : Writer). calledOn x closing (length (a .out .now))) w in
+    let leaves = closed c .close .ensures .1 ∙ ap (λ (x : Writer). outputCalled x closing (a .out .now)) w in
+    (c .answered .ensures ∙ ap (λ (x : Replying). getD (outcomeNumbers x) (a .which) 0) answers, leaves)
 
 pub probe-close-spec : {M : Type 1} → statement M
 probe-close-spec =

@@ -11,6 +11,13 @@ use borrow.Author.Needs.{needs}
 use Rattle.probe.proofs.probe_open.Statement.{statement}
 use Rattle.probe.proofs.probe_open.Tie as tie
 
+-- The writer answered: its call, and the start.
+abbrev opened : tie.After-answered → tie.After-open
+opened c = c .before .before .before
+
+abbrev start : tie.After-answered → tie.Start
+start c = opened c .before .before .before .before
+
 writer-of-requires : tie.Need-writer-of-requires
 writer-of-requires c κs = search needs
 
@@ -31,11 +38,11 @@ same-length c = search needs
 
 returns : tie.Need-returns
 returns c =
-    let out : List ℕ = c .before .before .before .before .before .before .before .args .out .now in
-    let w = c .before .before .before .before .before .writer-of .ensures in
-    let answers = c .before .before .before .«open» .ensures .0 ∙ ap (λ (x : Writer). calledOn x (opening (c .before .before .before .before .before .before .before .args .seconds) (c .before .before .before .before .before .before .before .args .micros % 2 ^ 32) (c .before .before .before .before .before .before .before .args .cpu % 2 ^ 16) (c .before .before .before .before .before .before .before .args .tsc)) (length out)) w in
-    let leaves = c .before .before .before .«open» .ensures .1 ∙ ap (λ (x : Writer). outputCalled x (opening (c .before .before .before .before .before .before .before .args .seconds) (c .before .before .before .before .before .before .before .args .micros % 2 ^ 32) (c .before .before .before .before .before .before .before .args .cpu % 2 ^ 16) (c .before .before .before .before .before .before .before .args .tsc)) out) w in
-    (c .answered .ensures ∙ ap (λ (x : Replying). getD (outcomeNumbers x) (c .before .before .before .before .before .before .before .args .which) 0) answers, leaves)
+    let a = start c .args in
+    let w = opened c .before .before .writer-of .ensures in
+    let answers = opened c .«open» .ensures .0 ∙ ap (λ (x : Writer). calledOn x (opening (a .seconds) (a .micros % 2 ^ 32) (a .cpu % 2 ^ 16) (a .tsc)) (length (a .out .now))) w in
+    let leaves = opened c .«open» .ensures .1 ∙ ap (λ (x : Writer). outputCalled x (opening (a .seconds) (a .micros % 2 ^ 32) (a .cpu % 2 ^ 16) (a .tsc)) (a .out .now)) w in
+    (c .answered .ensures ∙ ap (λ (x : Replying). getD (outcomeNumbers x) (a .which) 0) answers, leaves)
 
 pub probe-open-spec : {M : Type 1} → statement M
 probe-open-spec =

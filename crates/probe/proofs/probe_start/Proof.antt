@@ -7,6 +7,10 @@ use borrow.Author.Needs.{needs}
 use Rattle.probe.proofs.probe_start.Statement.{statement}
 use Rattle.probe.proofs.probe_start.Tie as tie
 
+-- The writer answered.
+abbrev began : tie.After-answered → tie.After-start
+began c = c .before .before .before
+
 cast-named : tie.Need-cast-named
 cast-named c = search needs
 
@@ -20,7 +24,7 @@ same-length : tie.Need-same-length
 same-length c = search needs
 
 returns : tie.Need-returns
-returns c = (c .answered .ensures ∙ ap (λ (x : Replying). getD (outcomeNumbers x) (c .before .before .before .before .before .before .args .which) 0) (c .before .before .before .start .ensures .0), c .before .before .before .start .ensures .1)
+returns c = (c .answered .ensures ∙ ap (λ (x : Replying). getD (outcomeNumbers x) (began c .before .before .before .args .which) 0) (began c .start .ensures .0), began c .start .ensures .1)
 
 pub probe-start-spec : {M : Type 1} → statement M
 probe-start-spec =

@@ -11,6 +11,16 @@ use borrow.Author.Needs.{needs}
 use Rattle.probe.proofs.probe_write.Statement.{statement}
 use Rattle.probe.proofs.probe_write.Tie as tie
 
+-- The answer is told: the writer's, the record that it was given, and the start.
+abbrev wrote : tie.After-written-numbers → tie.After-write-record
+wrote c = c .before .before .before
+
+abbrev made : tie.After-written-numbers → tie.After-record-of
+made c = wrote c .before .before
+
+abbrev start : tie.After-written-numbers → tie.Start
+start c = made c .before .before .before
+
 record-of-requires : tie.Need-record-of-requires
 record-of-requires c κs = search needs
 
@@ -30,14 +40,20 @@ same-length : tie.Need-same-length
 same-length c = search needs
 
 returns : tie.Need-returns
-returns c = (ap (λ (l : List ℕ). getD l (c .before .before .before .before .before .before .before .before .before .args .which) 0) (c .before .written-numbers .ensures ∙ ap writingNumbers (c .before .before .before .before .write-record .ensures .0 ∙ ap (λ (r : Record). written r (c .before .before .before .before .before .before .before .before .before .args .event .now) (length (c .before .before .before .before .before .before .before .before .before .args .out .now))) (c .before .before .before .before .before .before .record-of .ensures))), c .before .before .before .before .write-record .ensures .1 ∙ ap (λ (r : Record). outputAfter r (c .before .before .before .before .before .before .before .before .before .args .event .now) (c .before .before .before .before .before .before .before .before .before .args .out .now)) (c .before .before .before .before .before .before .record-of .ensures))
+returns c =
+    let a = start (c .before) .args in
+    let w = wrote (c .before) .write-record .ensures in
+    let is = made (c .before) .record-of .ensures in
+    (ap (λ (l : List ℕ). getD l (a .which) 0) (c .before .written-numbers .ensures ∙ ap writingNumbers (w .0 ∙ ap (λ (r : Record). written r (a .event .now) (length (a .out .now))) is)), w .1 ∙ ap (λ (r : Record). outputAfter r (a .event .now) (a .out .now)) is)
 
 same-length-2 : tie.Need-same-length-2
 same-length-2 c = search needs
 
 returns-2 : tie.Need-returns-2
-returns-2 c = let v = written (recordOf (c .before .before .before .before .before .before .before .before .before .args .kind) (c .before .before .before .before .before .before .before .before .before .args .a) (c .before .before .before .before .before .before .before .before .before .args .b) (c .before .before .before .before .before .before .before .before .before .args .c)) (c .before .before .before .before .before .before .before .before .before .args .event .now) (length (c .before .before .before .before .before .before .before .before .before .args .out .now)) in
-    (past (writingNumbers v) 2 (c .before .before .before .before .before .before .before .before .before .args .which) (writing-long v) (c .if1 .left), c .before .before .before .before .write-record .ensures .1 ∙ ap (λ (r : Record). outputAfter r (c .before .before .before .before .before .before .before .before .before .args .event .now) (c .before .before .before .before .before .before .before .before .before .args .out .now)) (c .before .before .before .before .before .before .record-of .ensures))
+returns-2 c =
+    let a = start (c .before) .args in
+    let v = written (recordOf (a .kind) (a .a) (a .b) (a .c)) (a .event .now) (length (a .out .now)) in
+    (past (writingNumbers v) 2 (a .which) (writing-long v) (c .if1 .left), wrote (c .before) .write-record .ensures .1 ∙ ap (λ (r : Record). outputAfter r (a .event .now) (a .out .now)) (made (c .before) .record-of .ensures))
 
 pub probe-write-spec : {M : Type 1} → statement M
 probe-write-spec =

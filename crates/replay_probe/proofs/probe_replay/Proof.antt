@@ -10,6 +10,13 @@ use borrow.Author.Needs.{needs}
 use Rattle.replay_probe.proofs.probe_replay.Statement.{statement}
 use Rattle.replay_probe.proofs.probe_replay.Tie as tie
 
+-- The answer is told: the replay's, and the start.
+abbrev replayed : tie.After-numbers-of → tie.After-replay
+replayed c = c .before .before .before
+
+abbrev start : tie.After-numbers-of → tie.Start
+start c = replayed c .before .before .before .before
+
 replay-requires : tie.Need-replay-requires
 replay-requires c κs = search needs
 
@@ -26,14 +33,18 @@ same-length : tie.Need-same-length
 same-length c = search needs
 
 returns : tie.Need-returns
-returns c = (ap (λ (l : List ℕ). getD l (c .before .before .before .before .before .before .before .before .args .which) 0) (c .before .numbers-of .ensures ∙ ap verdictNumbers (c .before .before .before .before .replay .ensures .0)), c .before .before .before .before .replay .ensures .1 .0)
+returns c =
+    let r = replayed (c .before) .replay .ensures in
+    (ap (λ (l : List ℕ). getD l (start (c .before) .args .which) 0) (c .before .numbers-of .ensures ∙ ap verdictNumbers (r .0)), r .1 .0)
 
 same-length-2 : tie.Need-same-length-2
 same-length-2 c = search needs
 
 returns-2 : tie.Need-returns-2
-returns-2 c = let v = answer (c .before .before .before .before .before .before .before .before .args .log .now) (c .before .before .before .before .before .before .before .before .args .table .now) in
-    (past v (c .before .before .before .before .before .before .before .before .args .which) (c .if1 .left), c .before .before .before .before .replay .ensures .1 .0)
+returns-2 c =
+    let a = start (c .before) .args in
+    let v = answer (a .log .now) (a .table .now) in
+    (past v (a .which) (c .if1 .left), replayed (c .before) .replay .ensures .1 .0)
 
 pub probe-replay-spec : {M : Type 1} → statement M
 probe-replay-spec =

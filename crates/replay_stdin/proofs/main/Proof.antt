@@ -9,6 +9,13 @@ use borrow.Author.Needs.{needs}
 use Rattle.replay_stdin.proofs.main.Statement.{statement}
 use Rattle.replay_stdin.proofs.main.Tie as tie
 
+-- The input did not fail: what was read lies in the buffer.
+abbrev made : tie.After-input → tie.After-read-all
+made c = c .before .before .before
+
+within : (c : tie.After-input) → c .input .given .0 .0 ≤ length (made c .read-all .last .0)
+within c = subst (λ (x : Input). Within x (length (made c .read-all .last .0))) (c .input .given .1) (made c .read-all .ensures)
+
 slice-aggregate-read-all : tie.Need-slice-aggregate-read-all
 slice-aggregate-read-all c = search needs
 
@@ -43,9 +50,9 @@ array-share-prefix-buffer : tie.Need-array-share-prefix-buffer
 array-share-prefix-buffer c = search needs
 
 slice-aggregate-print-replay : tie.Need-slice-aggregate-print-replay
-slice-aggregate-print-replay c = let u = c .before .before .before .before .before .before .read-all .last .0 in
-    let within : c .before .before .before .input .given .0 .0 ≤ length u = subst (λ (x : Input). Within x (length u)) (c .before .before .before .input .given .1) (c .before .before .before .before .before .before .read-all .ensures) in
-    sym (length-take-le (c .before .before .before .input .given .0 .0) u within)
+slice-aggregate-print-replay c =
+    let taken = c .before .before .before in
+    sym (length-take-le (taken .input .given .0 .0) (made taken .read-all .last .0) (within taken))
 
 print-replay-requires : tie.Need-print-replay-requires
 print-replay-requires c κs = search needs

@@ -16,6 +16,33 @@ Inv-loop buffer₀ done₀ buffer done = (done ≤ length buffer) × (length buf
 abbrev μ-loop : tie.MeasureT-loop
 μ-loop buffer₀ done₀ buffer done = length buffer₀ - done
 
+-- A read was made, in a turn of the loop.
+abbrev Read : Type 0
+Read = tie.After-read-some Inv-loop μ-loop
+
+abbrev turn : Read → tie.In-loop Inv-loop μ-loop
+turn c = c .before .before
+
+abbrev here : Read → tie.At-loop Inv-loop μ-loop
+here c = turn c .before
+
+-- The buffer keeps its length, and the part was what is left of it.
+same : (c : Read) → length (putMid (here c .loop .done) (length (here c .loop .buffer) - here c .loop .done) (here c .loop .buffer) (c .read-some .last .0)) ≡ length (here c .loop .buffer)
+same c = same-len-mid (here c .loop .done) (length (here c .loop .buffer) - here c .loop .done) (here c .loop .buffer) (c .read-some .last .0) (c .read-some .kept .0)
+
+part : (c : Read) → length (c .read-some .last .0) ≡ length (here c .loop .buffer) - here c .loop .done
+part c = c .read-some .kept .0 ∙ simp (length-take, length-drop) (omega arith)
+
+-- The read did not fail: what it took lies in the part.
+abbrev Took : Type 0
+Took = tie.After-known-told Inv-loop μ-loop
+
+abbrev made : Took → Read
+made c = c .before .before .before .before .before
+
+within : (c : Took) → c .before .read .given .0 .0 ≤ length (made c .read-some .last .0)
+within c = subst (λ (x : Input). Within x (length (made c .read-some .last .0))) (c .before .read .given .1) (made c .read-some .ensures)
+
 loop-holds : tie.Need-loop-holds Inv-loop μ-loop
 loop-holds c = (omega arith, refl)
 
@@ -38,43 +65,25 @@ enum-told : tie.Need-enum-told Inv-loop μ-loop
 enum-told c = search needs
 
 same-length : tie.Need-same-length Inv-loop μ-loop
-same-length c = let l = c .before .before .before .before .before .before .before .loop in
-    let same : length (putMid (l .done) (length (l .buffer) - l .done) (l .buffer) (c .before .before .before .before .read-some .last .0)) ≡ length (l .buffer) = same-len-mid (l .done) (length (l .buffer) - l .done) (l .buffer) (c .before .before .before .before .read-some .last .0) (c .before .before .before .before .read-some .kept .0) in
-    same ∙ l .inv .1
+same-length c = let r = c .before .before .before .before in same r ∙ here r .loop .inv .1
 
 returns : tie.Need-returns Inv-loop μ-loop
 returns c = tt
 
 same-length-2 : tie.Need-same-length-2 Inv-loop μ-loop
-same-length-2 c = let l = c .before .before .before .before .before .before .before .before .before .loop in
-    let same : length (putMid (l .done) (length (l .buffer) - l .done) (l .buffer) (c .before .before .before .before .before .before .read-some .last .0)) ≡ length (l .buffer) = same-len-mid (l .done) (length (l .buffer) - l .done) (l .buffer) (c .before .before .before .before .before .before .read-some .last .0) (c .before .before .before .before .before .before .read-some .kept .0) in
-    same ∙ l .inv .1
+same-length-2 c = same (made (c .before)) ∙ here (made (c .before)) .loop .inv .1
 
 returns-2 : tie.Need-returns-2 Inv-loop μ-loop
-returns-2 c = let l = c .before .before .before .before .before .before .before .before .before .loop in
-    let same : length (putMid (l .done) (length (l .buffer) - l .done) (l .buffer) (c .before .before .before .before .before .before .read-some .last .0)) ≡ length (l .buffer) = same-len-mid (l .done) (length (l .buffer) - l .done) (l .buffer) (c .before .before .before .before .before .before .read-some .last .0) (c .before .before .before .before .before .before .read-some .kept .0) in
-    omega (arith, l .inv .0)
+returns-2 c = omega (arith, same (made (c .before)), here (made (c .before)) .loop .inv .0)
 
 add-done : tie.Need-add-done Inv-loop μ-loop
-add-done c = let l = c .before .before .before .before .before .before .before .before .before .loop in
-    let same : length (putMid (l .done) (length (l .buffer) - l .done) (l .buffer) (c .before .before .before .before .before .before .read-some .last .0)) ≡ length (l .buffer) = same-len-mid (l .done) (length (l .buffer) - l .done) (l .buffer) (c .before .before .before .before .before .before .read-some .last .0) (c .before .before .before .before .before .before .read-some .kept .0) in
-    let part : length (c .before .before .before .before .before .before .read-some .last .0) ≡ length (l .buffer) - l .done = c .before .before .before .before .before .before .read-some .kept .0 ∙ simp (length-take, length-drop) (omega arith) in
-    let within : c .before .before .read .given .0 .0 ≤ length (c .before .before .before .before .before .before .read-some .last .0) = subst (λ (x : Input). Within x (length (c .before .before .before .before .before .before .read-some .last .0))) (c .before .before .read .given .1) (c .before .before .before .before .before .before .read-some .ensures) in
-    omega (arith, c .before .before .before .before .before .before .before .before .loop-test .taken)
+add-done c = let r = made (c .before) in omega (arith, same r, part r, within (c .before), turn r .loop-test .taken)
 
 loop-less : tie.Need-loop-less Inv-loop μ-loop
-loop-less c = let l = c .before .before .before .before .before .before .before .before .before .loop in
-    let same : length (putMid (l .done) (length (l .buffer) - l .done) (l .buffer) (c .before .before .before .before .before .before .read-some .last .0)) ≡ length (l .buffer) = same-len-mid (l .done) (length (l .buffer) - l .done) (l .buffer) (c .before .before .before .before .before .before .read-some .last .0) (c .before .before .before .before .before .before .read-some .kept .0) in
-    let part : length (c .before .before .before .before .before .before .read-some .last .0) ≡ length (l .buffer) - l .done = c .before .before .before .before .before .before .read-some .kept .0 ∙ simp (length-take, length-drop) (omega arith) in
-    let within : c .before .before .read .given .0 .0 ≤ length (c .before .before .before .before .before .before .read-some .last .0) = subst (λ (x : Input). Within x (length (c .before .before .before .before .before .before .read-some .last .0))) (c .before .before .read .given .1) (c .before .before .before .before .before .before .read-some .ensures) in
-    omega (arith, c .if1 .left, c .before .before .before .before .before .before .before .before .loop-test .taken, l .inv .1)
+loop-less c = let r = made (c .before) in omega (arith, c .if1 .left, same r, part r, within (c .before), turn r .loop-test .taken, here r .loop .inv .1)
 
 loop-again : tie.Need-loop-again Inv-loop μ-loop
-loop-again c = let l = c .before .before .before .before .before .before .before .before .before .loop in
-    let same : length (putMid (l .done) (length (l .buffer) - l .done) (l .buffer) (c .before .before .before .before .before .before .read-some .last .0)) ≡ length (l .buffer) = same-len-mid (l .done) (length (l .buffer) - l .done) (l .buffer) (c .before .before .before .before .before .before .read-some .last .0) (c .before .before .before .before .before .before .read-some .kept .0) in
-    let part : length (c .before .before .before .before .before .before .read-some .last .0) ≡ length (l .buffer) - l .done = c .before .before .before .before .before .before .read-some .kept .0 ∙ simp (length-take, length-drop) (omega arith) in
-    let within : c .before .before .read .given .0 .0 ≤ length (c .before .before .before .before .before .before .read-some .last .0) = subst (λ (x : Input). Within x (length (c .before .before .before .before .before .before .read-some .last .0))) (c .before .before .read .given .1) (c .before .before .before .before .before .before .read-some .ensures) in
-    (omega (arith, c .before .before .before .before .before .before .before .before .loop-test .taken), same ∙ l .inv .1)
+loop-again c = let r = made (c .before) in (omega (arith, same r, part r, within (c .before), turn r .loop-test .taken), same r ∙ here r .loop .inv .1)
 
 same-length-3 : tie.Need-same-length-3 Inv-loop μ-loop
 same-length-3 c = c .before .loop .inv .1

@@ -15,6 +15,16 @@ use Rattle.scrub.proofs.scrub_records.Tie as tie
 tells : (c : tie.After-check) → scrubbingOf (c .check .result) ≡ scrubbing (c .before .before .before .before .args .log .now)
 tells c = c .check .ensures ∙ rw (c .before .before .start .ensures) (records-tell _ _ (c .before .before .before .before .pre))
 
+abbrev start : tie.After-check → tie.Start
+start c = c .before .before .before .before
+
+-- Behind the second pass: the header's bytes, and the first pass.
+abbrev zeroed : tie.After-slice-known3 → tie.After-zero
+zeroed c = c .before .before .before .before .before .before
+
+abbrev checked : tie.After-slice-known3 → tie.After-check
+checked c = zeroed c .before .before .before .before
+
 start-requires : tie.Need-start-requires
 start-requires c κs = search needs
 
@@ -25,7 +35,7 @@ enum-told : tie.Need-enum-told
 enum-told c = search needs
 
 zero-requires : tie.Need-zero-requires
-zero-requires c κs = (omega arith, passed-long longest _ _ (c .before .before .before .before .before .before .before .pre))
+zero-requires c κs = (omega arith, passed-long longest _ _ (start (c .before .before .before) .pre))
 
 wipe-requires : tie.Need-wipe-requires
 wipe-requires c κs = search needs
@@ -38,11 +48,11 @@ same-length c = search needs
 
 returns : tie.Need-returns
 returns c =
-    let a = c .before .before .before .before .before .before .before .before .before .before .before .before .before .before in
-    let t : List ℕ = c .before .before .before .before .before .before .zero .last .0 in
-    let all = tells (c .before .before .before .before .before .before .before .before .before .before) in
-    let well = sym (ap scrubbingOf (c .before .before .before .before .before .before .before .before .«enum-told» .given .1)) ∙ all in
-    (all, c .before .before .wipe .ensures ∙ rw (c .before .before .before .before .before .before .before .before .before .before .before .before .start .ensures) (both-wiped (a .args .log .now) _ (a .pre) t (c .before .before .before .before .before .before .zero .ensures) well))
+    let begun = start (checked c) in
+    let t : List ℕ = zeroed c .zero .last .0 in
+    let all = tells (checked c) in
+    let well = sym (ap scrubbingOf (zeroed c .before .before .«enum-told» .given .1)) ∙ all in
+    (all, c .before .before .wipe .ensures ∙ rw (checked c .before .before .start .ensures) (both-wiped (begun .args .log .now) _ (begun .pre) t (zeroed c .zero .ensures) well))
 
 same-length-2 : tie.Need-same-length-2
 same-length-2 c = search needs

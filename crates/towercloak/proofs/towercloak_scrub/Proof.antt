@@ -8,6 +8,10 @@ use borrow.Author.Needs.{needs}
 use Rattle.towercloak.proofs.towercloak_scrub.Statement.{statement}
 use Rattle.towercloak.proofs.towercloak_scrub.Tie as tie
 
+-- Behind a refusal's number, the scrubber's answer.
+abbrev ran : tie.After-number → tie.After-scrub
+ran c = c .before .before .before .before .before .before
+
 scrub-requires : tie.Need-scrub-requires
 scrub-requires c κs = search needs
 
@@ -36,8 +40,8 @@ same-length-2 c = search needs
 
 returns-2 : tie.Need-returns-2
 returns-2 c =
-    let e = sym (c .before .before .before .before .before .before .scrub .ensures .0) ∙ ap scrubbingOf (c .before .before .answer .given .1) in
-    (c .number .ensures ∙ sym (ap scrubNumber e), (sym (ap scrubPlace e), c .before .before .before .before .before .before .scrub .ensures .1))
+    let e = sym (ran c .scrub .ensures .0) ∙ ap scrubbingOf (c .before .before .answer .given .1) in
+    (c .number .ensures ∙ sym (ap scrubNumber e), (sym (ap scrubPlace e), ran c .scrub .ensures .1))
 
 pub towercloak-scrub-spec : {M : Type 1} → statement M
 towercloak-scrub-spec =

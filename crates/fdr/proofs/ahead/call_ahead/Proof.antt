@@ -18,6 +18,17 @@ use Rattle.fdr.proofs.ahead.call_ahead.Tie as tie
 body : (c : tie.Else1) → leading (c .before .before .before .args .at .stage) ≡ false
 body c = sym (c .before .leading .ensures) ∙ c .if1 .left
 
+-- The first byte is told.
+abbrev passed : tie.After-told-by → tie.Else1
+passed c = c .before .before .before .before .before
+
+abbrev start : tie.After-told-by → tie.Start
+start c = passed c .before .before .before
+
+-- A function record was decoded.
+abbrev told : tie.After-behind-call → tie.After-told-by
+told c = c .before .before .before .before .before .before .before
+
 leading-requires : tie.Need-leading-requires
 leading-requires c κs = search needs
 
@@ -25,16 +36,16 @@ returns : tie.Need-returns
 returns c = sym (no-calls _ _ (sym (c .before .leading .ensures) ∙ c .if1 .taken))
 
 returns-2 : tie.Need-returns-2
-returns-2 c = sym (no-call _ _ (body (c .before)) (λ h l even small. omega (arith, c .if2 .taken)))
+returns-2 c = sym (no-call _ _ (body (c .before)) (λ h l first small. omega (arith, c .if2 .taken)))
 
 returns-3 : tie.Need-returns-3
-returns-3 c = sym (no-call _ _ (body (c .before .before)) (λ h l even small. omega (arith, c .if3 .taken)))
+returns-3 c = sym (no-call _ _ (body (c .before .before)) (λ h l first small. omega (arith, c .if3 .taken)))
 
 sub-if4 : tie.Need-sub-if4
 sub-if4 c = search needs
 
 returns-4 : tie.Need-returns-4
-returns-4 c = sym (no-call _ _ (body (c .before .before .before)) (λ h l even small. omega (arith, c .if4 .taken)))
+returns-4 c = sym (no-call _ _ (body (c .before .before .before)) (λ h l first small. omega (arith, c .if4 .taken)))
 
 shared-slice-read-told-by : tie.Need-shared-slice-read-told-by
 shared-slice-read-told-by c = search needs
@@ -46,7 +57,9 @@ enum-told : tie.Need-enum-told
 enum-told c = search needs
 
 returns-5 : tie.Need-returns-5
-returns-5 c = sym (no-call _ _ (body (c .before .before .before .before .before .before)) (λ h l even small. told-other (c .before .before .before .before .before .before .before .before .before .args .log .now) (c .before .before .before .before .before .before .before .before .before .args .at .place) _ (c .before .told-by .ensures) (c .match .keys2) even small))
+returns-5 c =
+    let a = start (c .before) .args in
+    sym (no-call _ _ (body (passed (c .before))) (λ h l first small. told-other (a .log .now) (a .at .place) _ (c .before .told-by .ensures) (c .match .keys2) first small))
 
 function-at-requires : tie.Need-function-at-requires
 function-at-requires c κs = search needs
@@ -64,10 +77,10 @@ behind-call-requires c κs = search needs
 returns-7 : tie.Need-returns-7
 returns-7 c =
     let f = c .before .before .«record» .given .0 in
-    let a = c .before .before .before .before .before .before .before .before .before .before .before .before .before .before .before .args in
-    let (even, l) = tells (a .log .now) (a .at .place) _ (sym (c .before .before .before .before .before .before .before .told-by .ensures) ∙ c .before .before .before .before .before .enum-told .given .1) in
+    let a = start (told c) .args in
+    let (first, l) = tells (a .log .now) (a .at .place) _ (sym (told c .told-by .ensures) ∙ c .before .before .before .before .before .enum-told .given .1) in
     ap (call (f .0) (f .1 .0) (f .1 .1 .0)) (c .behind-call .ensures)
-    ∙ call-found _ _ (body (c .before .before .before .before .before .before .before .before .before .before .before .before)) (f .0) (f .1 .0) (f .1 .1 .0) (omega arith) (omega arith) even l (sym (c .before .before .«record» .given .1) ∙ c .before .before .before .before .function-at .ensures)
+    ∙ call-found _ _ (body (passed (told c))) (f .0) (f .1 .0) (f .1 .1 .0) (omega arith) (omega arith) first l (sym (c .before .before .«record» .given .1) ∙ c .before .before .before .before .function-at .ensures)
 
 pub call-ahead-spec : {M : Type 1} → statement M
 call-ahead-spec =

@@ -3,12 +3,20 @@ use borrow.Author.Needs.{needs}
 use Rattle.fdr.proofs.Records.{not-in-front}
 use Rattle.fdr.proofs.Walking.{log-over, in-front, in-buffer, step-refused}
 use Rattle.fdr.proofs.Decoding.{past-log}
-use Rattle.fdr.specs.Walk.{steppingOf, inFront}
+use Rattle.fdr.specs.Walk.{steppingOf, inFront, stepIn, next}
 use denote.Ref.{now}
 use native.Mathlib.Omega.{arith}
-use mathlib.Core.Path.{sym, ap, _∙_}
+use Prim.Native.Nat.{_+_}
+use mathlib.Core.Path.{_≡_, sym, ap, _∙_}
 use Rattle.fdr.proofs.walk.next.Statement.{statement}
 use Rattle.fdr.proofs.walk.next.Tie as tie
+
+-- In front of a buffer: the log is not over there.
+abbrev start : tie.Else1 → tie.Start
+start c = c .before .before .before .before
+
+entered : (c : tie.Else1) → next (now (start c .args .log)) (start c .args .at) ≡ stepIn (now (start c .args .log)) (start c .args .at) (start c .args .at .place + start c .args .at .size)
+entered c = in-front (now (start c .args .log)) (start c .args .at) (ap inFront (c .before .enum-told .given .1)) (c .if1 .left)
 
 enum-told : tie.Need-enum-told
 enum-told c = search needs
@@ -26,12 +34,10 @@ refused-requires c κs = search needs
 
 returns-2 : tie.Need-returns-2
 returns-2 c =
-    let a = c .before .before .before .before .before .before .before .args in
+    let front = c .before .before .before in
+    let a = start front .args in
     ap steppingOf (c .refused .ensures)
-    ∙ sym (in-front (now (a .log)) (a .at)
-    (ap inFront (c .before .before .before .before .enum-told .given .1)) (c .before .before .before .if1 .left)
-    ∙ step-refused (now (a .log)) (a .at) _ _ _
-    (sym (past-log _ _ _ (omega (arith, c .before .if2 .taken, c .before .before .before .if1 .left)))))
+    ∙ sym (entered front ∙ step-refused (now (a .log)) (a .at) _ _ _ (sym (past-log _ _ _ (omega (arith, c .before .if2 .taken, front .if1 .left)))))
 
 add-step-in : tie.Need-add-step-in
 add-step-in c = search needs
@@ -40,11 +46,7 @@ step-in-requires : tie.Need-step-in-requires
 step-in-requires c κs = search needs
 
 returns-3 : tie.Need-returns-3
-returns-3 c =
-    let a = c .before .before .before .before .before .before .before .before .args in
-    c .step-in .ensures
-    ∙ sym
-    (in-front (now (a .log)) (a .at) (ap inFront (c .before .before .before .before .before .enum-told .given .1)) (c .before .before .before .before .if1 .left))
+returns-3 c = c .step-in .ensures ∙ sym (entered (c .before .before .before .before))
 
 step-in-requires-2 : tie.Need-step-in-requires-2
 step-in-requires-2 c κs = search needs

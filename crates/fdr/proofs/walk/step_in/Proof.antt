@@ -2,11 +2,18 @@
 use borrow.Author.Needs.{needs}
 use Rattle.fdr.proofs.Walking.{step-found, step-refused}
 use Rattle.fdr.proofs.Decoding.{placed}
-use Rattle.fdr.specs.Reading.{readingOf}
+use Rattle.fdr.specs.Reading.{found, recordAt, readingOf}
 use denote.Ref.{now}
-use mathlib.Core.Path.{sym, ap, _∙_}
+use mathlib.Core.Path.{_≡_, sym, ap, _∙_}
 use Rattle.fdr.proofs.walk.step_in.Statement.{statement}
 use Rattle.fdr.proofs.walk.step_in.Tie as tie
+
+-- A record was read.
+abbrev start : tie.After-known-told → tie.Start
+start c = c .before .before .before .before .before
+
+was-read : (c : tie.After-known-told) → recordAt (now (start c .args .log)) (start c .args .end) (start c .args .at .place) ≡ found (c .before .read .given .0 .0) (c .before .read .given .0 .1 .0)
+was-read c = sym (c .before .before .before .record-at .ensures) ∙ ap readingOf (c .before .read .given .1)
 
 record-at-requires : tie.Need-record-at-requires
 record-at-requires c κs = search needs
@@ -28,15 +35,11 @@ returns c =
     ∙ sym (step-refused (now (a .log)) (a .at) _ _ _ (sym (c .before .before .before .record-at .ensures) ∙ read))
 
 admit-requires : tie.Need-admit-requires
-admit-requires c κs = placed _ _ _ _ _ (sym (c .before .before .before .record-at .ensures) ∙ ap readingOf (c .before .read .given .1)) .within
+admit-requires c κs = placed _ _ _ _ _ (was-read c) .within
 
 returns-2 : tie.Need-returns-2
 returns-2 c =
-    c .admit .ensures
-    ∙ sym (step-found
-    (now (c .before .before .before .before .before .before .args .log))
-    (c .before .before .before .before .before .before .args .at) _ _ _
-    (sym (c .before .before .before .before .record-at .ensures) ∙ ap readingOf (c .before .before .read .given .1)))
+    c .admit .ensures ∙ sym (step-found (now (start (c .before) .args .log)) (start (c .before) .args .at) _ _ _ (was-read (c .before)))
 
 pub step-in-spec : {M : Type 1} → statement M
 step-in-spec =

@@ -21,8 +21,15 @@ abbrev μ-loop : tie.MeasureT-loop
 μ-loop log₀ at₀ log at = length log - at .place
 
 -- At a record that the walk found.
-found : (c : tie.After-step Inv-loop μ-loop) → next (c .before .before .before .before .loop .log) (c .before .before .before .before .loop .at) ≡ onward (c .step .given .0 .0) (c .step .given .0 .1 .0)
+abbrev here : tie.After-step Inv-loop μ-loop → tie.At-loop Inv-loop μ-loop
+here c = c .before .before .before .before
+
+found : (c : tie.After-step Inv-loop μ-loop) → next (here c .loop .log) (here c .loop .at) ≡ onward (c .step .given .0 .0) (c .step .given .0 .1 .0)
 found c = sym (c .before .before .next .ensures) ∙ ap steppingOf (c .step .given .1)
+
+-- Behind what it hides.
+abbrev there : tie.After-slice-known2 Inv-loop μ-loop → tie.After-step Inv-loop μ-loop
+there c = c .before .before .before .before .before .before .before
 
 loop-holds : tie.Need-loop-holds Inv-loop μ-loop
 loop-holds c = (refl, refl)
@@ -54,14 +61,13 @@ zero-requires c κs =
 
 loop-less : tie.Need-loop-less Inv-loop μ-loop
 loop-less c =
-    let z = found (c .before .before .before .before .before .before .before) in
-    omega (arith, c .before .before .zero .kept .0, forward _ _ _ _ z, sized-some (c .before .before .before .before .before .before .before .step .given .0 .0))
+    let z = found (there c) in
+    omega (arith, c .before .before .zero .kept .0, forward _ _ _ _ z, sized-some (there c .step .given .0 .0))
 
 loop-again : tie.Need-loop-again Inv-loop μ-loop
 loop-again c =
-    let l = c .before .before .before .before .before .before .before .before .before .before .before .loop in
-    let z = found (c .before .before .before .before .before .before .before) in
-    (wiped _ _ _ _ z _ (c .before .before .before .before .before .«visible-size» .ensures) _ (c .before .before .zero .ensures) ∙ l .inv .0, c .before .before .zero .kept .0 ∙ l .inv .1)
+    let l = here (there c) .loop in
+    (wiped _ _ _ _ (found (there c)) _ (c .before .before .before .before .before .«visible-size» .ensures) _ (c .before .before .zero .ensures) ∙ l .inv .0, c .before .before .zero .kept .0 ∙ l .inv .1)
 
 pub wipe-spec : {M : Type 1} → statement M
 wipe-spec =
