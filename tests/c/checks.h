@@ -6,8 +6,9 @@
 #include <stdint.h>
 #include <stdio.h>
 
-/* Answers are refusals' numbers up to 18, and less where there is none. */
-static unsigned passed, failed, cases[19];
+/* Answers are refusals' numbers, and less where there is none. */
+enum { GREATEST = 19 };
+static unsigned passed, failed, cases[GREATEST + 1];
 
 static void expect(const char *name, const char *what, int holds)
 {

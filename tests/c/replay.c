@@ -52,6 +52,7 @@ static const struct test tests[] = {
     {"buffer_size 95", 128, 16, 95, WHOLE, 4, 0, NONE},
     {"no byte left for EndOfBuffer", 96, 16, 64, WHOLE, 5, 96, NONE},
     {"action 4", 128, 88, 0x58, WHOLE, 6, 88, NONE},
+    {"kind 7", 128, 88, 0x0F, WHOLE, 19, 88, NONE},
     {"Entry where WallTimeMarker should be", 128, 48, 0, WHOLE, 7, 48, NONE},
     {"another thread", 224, 129, 8, WHOLE, 8, 128, NONE},
     {"Exit of 6", 128, 88, 0x62, WHOLE, 10, 88, NONE},
@@ -151,7 +152,7 @@ static void lend_nothing(void)
 
 int main(void)
 {
-    static const uint32_t answers[] = {0, 1, 2, 3, 4, 5, 6, 7, 8, 10, 14};
+    static const uint32_t answers[] = {0, 1, 2, 3, 4, 5, 6, 7, 8, 10, 14, 19};
     for (size_t i = 0; i < sizeof tests / sizeof tests[0]; i++)
         run(&tests[i]);
     read_flags();

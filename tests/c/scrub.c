@@ -88,7 +88,7 @@ static const struct test tests[] = {
     {"no byte left for EndOfBuffer", sample_b, 96, 16, 64, 5, 96},
     {"an event runs past the end", every_record, 165, 121, 30, 5, 120},
     {"action 4", sample_b, 128, 88, 0x58, 6, 88},
-    {"kind 7", sample_b, 128, 96, 0x0F, 6, 96},
+    {"kind 7", sample_b, 128, 96, 0x0F, 19, 96},
     {"Entry where WallTimeMarker should be", sample_b, 128, 48, 0, 7, 48},
     {"CallArgument after Entry", every_record, 165, 96, 0xF0, 7, 104},
     {"another thread", two_buffers, 160, 97, 8, 8, 96},
@@ -134,7 +134,7 @@ static void scrub_nothing(void)
 
 int main(void)
 {
-    static const uint32_t answers[] = {0, 1, 2, 3, 4, 5, 6, 7, 8};
+    static const uint32_t answers[] = {0, 1, 2, 3, 4, 5, 6, 7, 8, 19};
     for (size_t i = 0; i < sizeof tests / sizeof tests[0]; i++)
         run(&tests[i]);
     scrub_nothing();
