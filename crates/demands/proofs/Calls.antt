@@ -8,7 +8,7 @@ use borrow.Author.Tests.{ltb-false, not-false, eq-eqb, eqb-true}
 use lib.ListN.{length}
 use Rattle.fdr.specs.Number.{byteAt}
 use Rattle.fdr.specs.Record.{eventSize, Typed}
-use Rattle.fdr.specs.Grammar.{joins, agreedWith}
+use Rattle.fdr.specs.Grammar.{isOpen, joins, agreedWith}
 use Rattle.record_writer.specs.Writing.{eventOf, fieldTests}
 use Rattle.fdr.specs.declared.record.Record.{Record}
 use Rattle.fdr.specs.declared.grammar.Stage.the-variants.{Between}
@@ -18,7 +18,7 @@ use Rattle.fdr.specs.declared.walk.Position.{Position}
 use Rattle.record_writer.proofs.ReadBack.{Here}
 use Rattle.log_writer.specs.declared.Writer.{Writer}
 use Rattle.log_writer.specs.Start.{Replying, continues, declined, put}
-use Rattle.log_writer.specs.Call.{Call, opening, adding, closing, isOpen, takes, addedBytes, callBytes, stateAfter, callTests, calledOn, outputCalled}
+use Rattle.log_writer.specs.Call.{Call, opening, adding, closing, takes, addedBytes, callBytes, stateAfter, callTests, calledOn, outputCalled}
 use Rattle.log_writer.specs.Session.{Logged, loggedBy, stateIn, outputIn, acceptedIn, TypedCall, TypedCalls}
 use Rattle.log_writer.proofs.Tests.{Passes, went-passes, passes-first, passes-behind}
 use Rattle.log_writer.proofs.Stages.{in-front-between}

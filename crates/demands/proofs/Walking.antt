@@ -8,7 +8,7 @@ use borrow.Author.Tests.{le-leb}
 use lib.ListN.{length, take, drop}
 use Rattle.fdr.specs.Number.{zeros}
 use Rattle.fdr.specs.Record.{sizeOf, eventSize, Typed, Bounded}
-use Rattle.fdr.specs.Grammar.{onto, follows, joins, agreedWith, joinedBy}
+use Rattle.fdr.specs.Grammar.{isOpen, onto, follows, joins, agreedWith, joinedBy}
 use Rattle.fdr.specs.Encoded.{recordBytes}
 use Rattle.record_writer.specs.Writing.{eventOf}
 use Rattle.fdr.specs.Walk.{onward, inFront, behind, threadTest, grammarTest, stepIn, next}
@@ -27,7 +27,7 @@ use Rattle.fdr.proofs.Walking.{step-found, log-over, in-front, in-buffer}
 use Rattle.fdr.proofs.Tracing.{trace-next}
 use Rattle.record_writer.proofs.ReadBack.{Here, decoded-back}
 use Rattle.log_writer.specs.declared.Writer.{Writer}
-use Rattle.log_writer.specs.Call.{opening, adding, closing, isOpen, stageAfter, takes, addedBytes, callBytes, stateAfter}
+use Rattle.log_writer.specs.Call.{opening, adding, closing, stageAfter, takes, addedBytes, callBytes, stateAfter}
 use Rattle.log_writer.specs.Session.{Logged, eventless, loggedBy}
 use Rattle.log_writer.proofs.Putting.{here-first, here-second, here-whole}
 use Rattle.log_writer.proofs.Stages.{open-behind, open-end}

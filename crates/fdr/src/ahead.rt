@@ -3,11 +3,12 @@ ghost use mathlib.Core.Path.{_≡_};
 ghost use Prim.Native.Nat.{_+_, _^_, _<_};
 ghost use Rattle.fdr.specs.Walk.{next};
 ghost use Rattle.fdr.specs.Ahead.{callingOf, callIn};
-ghost use Rattle.fdr.specs.Private.{leading, behindCall};
+ghost use Rattle.fdr.specs.Private.{behindCall};
 use crate::bits::First;
 use crate::bits::told_by;
 use crate::decode::function_at;
 use crate::grammar::Stage;
+use crate::grammar::is_open;
 use crate::record::Record;
 use crate::walk::Position;
 
@@ -20,17 +21,6 @@ pub enum Ahead {
         next: Position,
     },
     Other,
-}
-
-// Whether a buffer's leading records are not passed yet: no function record may stand there.
-fn leading(stage: Stage) -> bool
-    ensures { λ r. ⌜ r ≡ leading stage ⌝ }
-{
-    match stage {
-        Stage::Body => false,
-        Stage::Arguments => false,
-        _ => true,
-    }
 }
 
 fn behind_call(at: Position, action: u8) -> Position
@@ -63,7 +53,7 @@ pub fn call_ahead(log: &[u8], at: Position) -> Ahead
     let stage = at.stage;
     let place = at.place;
     let end = at.end;
-    if leading(stage) {
+    if !is_open(stage) {
         return Ahead::Other;
     }
     if log.len() < end {

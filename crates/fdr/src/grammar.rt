@@ -1,6 +1,6 @@
 // Which record may stand where in a buffer, and which thread a buffer may name.
 ghost use mathlib.Core.Path.{_≡_};
-ghost use Rattle.fdr.specs.Grammar.{followingOf, inBody, follows, joiningOf, joinedBy};
+ghost use Rattle.fdr.specs.Grammar.{isOpen, followingOf, inBody, follows, joiningOf, joinedBy};
 use crate::record::Record;
 
 // A place in the grammar of a buffer.
@@ -33,6 +33,17 @@ pub enum Threads {
 pub enum Joined {
     Agreed(Threads),
     Another,
+}
+
+// Whether a buffer's three leading records are passed.
+pub fn is_open(stage: Stage) -> bool
+    ensures { λ r. ⌜ r ≡ isOpen stage ⌝ }
+{
+    match stage {
+        Stage::Body => true,
+        Stage::Arguments => true,
+        _ => false,
+    }
 }
 
 fn in_body(record: Record) -> Follow

@@ -1,12 +1,13 @@
 -- `fdr::ahead::call_ahead` meets its contract: each answer by what was tested. Assumes nothing.
 use mathlib.Core.Path.{_≡_, sym, ap, _∙_}
-use mathlib.Core.Bool.{false}
+use mathlib.Core.Bool.{true}
 use mathlib.Core.List.{[], _∷_}
 use native.Mathlib.Omega.{arith}
+use borrow.Author.Tests.{not-true, not-false}
 use Rattle.fdr.specs.Record.{kindOf}
 use Rattle.fdr.specs.Decoded.{functionAt}
 use Rattle.fdr.specs.Ahead.{call}
-use Rattle.fdr.specs.Private.{leading}
+use Rattle.fdr.specs.Grammar.{isOpen}
 use Rattle.fdr.proofs.Records.{not-kind}
 use Rattle.fdr.proofs.Decoding.{tells}
 use Rattle.fdr.proofs.Calling.{no-calls, no-call, told-other, call-found}
@@ -15,8 +16,8 @@ use Rattle.fdr.proofs.ahead.call_ahead.Statement.{statement}
 use Rattle.fdr.proofs.ahead.call_ahead.Tie as tie
 
 -- The record may stand here.
-body : (c : tie.Else1) → leading (c .before .before .before .args .at .stage) ≡ false
-body c = sym (c .before .leading .ensures) ∙ c .if1 .left
+body : (c : tie.Else1) → isOpen (c .before .before .before .args .at .stage) ≡ true
+body c = sym (c .before .is-open .ensures) ∙ not-false _ (c .if1 .left)
 
 -- The first byte is told.
 abbrev passed : tie.After-told-by → tie.Else1
@@ -29,11 +30,11 @@ start c = passed c .before .before .before
 abbrev told : tie.After-behind-call → tie.After-told-by
 told c = c .before .before .before .before .before .before .before
 
-leading-requires : tie.Need-leading-requires
-leading-requires c κs = search needs
+is-open-requires : tie.Need-is-open-requires
+is-open-requires c κs = search needs
 
 returns : tie.Need-returns
-returns c = sym (no-calls _ _ (sym (c .before .leading .ensures) ∙ c .if1 .taken))
+returns c = sym (no-calls _ _ (sym (c .before .is-open .ensures) ∙ not-true _ (c .if1 .taken)))
 
 returns-2 : tie.Need-returns-2
 returns-2 c = sym (no-call _ _ (body (c .before)) (λ h l first small. omega (arith, c .if2 .taken)))
@@ -86,7 +87,7 @@ pub call-ahead-spec : {M : Type 1} → statement M
 call-ahead-spec =
     tie.close
     (tie.spec
-    leading-requires
+    is-open-requires
     returns
     returns-2
     returns-3
