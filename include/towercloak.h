@@ -68,9 +68,9 @@ uint32_t towercloak_scrub(uint8_t *log, size_t length, uint64_t *place);
  *
  * 0            Each function that was entered has a row of six numbers, in the order of first entry: its id, how
  *              often it was entered, closed, closed backward (the clock at the exit was below that at the entry;
- *              also counted as closed) and abandoned (a call below it was closed first), and the sum of its ticks.
- *              Row i starts at table[i * TOWERCLOAK_ROW]. *rows, *buffers, *records and *open are the numbers of
- *              rows, buffers, records and calls still open, and *place is 0.
+ *              also counted as closed) and abandoned (an Exit closed a call below it first), and the sum of its
+ *              ticks. Row i starts at table[i * TOWERCLOAK_ROW]. *rows, *buffers, *records and *open are the
+ *              numbers of rows, buffers, records and calls still open, and *place is 0.
  * 1 to 14, 19  It was refused by the rule of this number. The four counts are 0, and *place is where: as for the
  *              scrubber, and 0 for 14.
  *

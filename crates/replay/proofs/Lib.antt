@@ -3,6 +3,9 @@ pub mod Counts
 pub mod Stacks
 pub mod Holding
 pub mod Entering
+pub mod Closing
+pub mod Passing
 pub mod Leaving
 pub mod Stepping
+pub mod TailExits
 pub mod Running

@@ -1,5 +1,6 @@
 pub mod Row
 pub mod Stack
 pub mod Step
+pub mod TailExit
 pub mod Replay
 pub mod Private

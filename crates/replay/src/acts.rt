@@ -6,7 +6,7 @@ ghost use Prim.Native.Nat.{_≤_};
 ghost use lib.ListN.{length};
 ghost use lib.Dec.{eqb};
 ghost use Rattle.replay.specs.Row.{mostRows, cells};
-ghost use Rattle.replay.specs.Private.{RowsBelow, Nearest, Counted, Abandoned, Enterable, Entered, Open, Left, Ready, Called};
+ghost use Rattle.replay.specs.Private.{RowsBelow, Nearest, Open, Passes, Enterable, Entered, Left, Ready, Called};
 use crate::calls::DEEPEST;
 use crate::row::ABANDONED;
 use crate::row::ENTERED;
@@ -44,17 +44,34 @@ fn find_call(row: &[u16], depth: usize, table: &[u64], id: u64) -> usize
     0
 }
 
-// Counts the calls above a depth as abandoned.
-fn abandon(row: &[u16], depth: usize, keep: usize, table: &mut [u64])
-    requires { ⌜ (keep ≤ depth) × Counted depth (now row) (now table) ⌝ }
-    ensures { λ _. ⌜ Abandoned depth keep (now (row .entry)) (now (table .entry)) (now (table .exit)) ⌝ }
+// Counts the calls above a depth, from the top down: a tail exit closes them at a clock, any other abandons them. Test
+// 13: the answer says whether the ticks of their rows stay below 2^64.
+fn pass<'a>(
+    table: &mut [u64],
+    row: &'a [u16; 256],
+    since: &'a [u64; 256],
+    depth: usize,
+    keep: usize,
+    clock: u64,
+    tail: bool,
+) -> bool
+    requires { ⌜ (keep ≤ depth) × Open depth (now row) (now since) (now table) ⌝ }
+    ensures { λ r. ⌜ Passes tail depth keep clock (now (row .entry)) (now (since .entry)) (now (table .entry)) r (now (table .exit)) ⌝ }
 {
     let mut k: usize = depth;
     while keep < k {
         k -= 1;
         let r = row[k] as usize;
-        add(table, r, ABANDONED, 1);
+        if tail {
+            let fits = close(table, r, since[k], clock);
+            if !fits {
+                return false;
+            }
+        } else {
+            add(table, r, ABANDONED, 1);
+        }
     }
+    true
 }
 
 // Tests 11 and 12, and counts an entry at a clock.
@@ -86,7 +103,7 @@ fn enter(table: &mut [u64], depth: usize, rows: usize, id: u64, clock: u64) -> A
     }
 }
 
-// Tests 10 and 13, and counts an exit at a clock.
+// Tests 10 and 13, and counts an exit at a clock, a tail exit or another.
 fn leave<'a>(
     table: &mut [u64],
     row: &'a [u16; 256],
@@ -94,15 +111,19 @@ fn leave<'a>(
     depth: usize,
     id: u64,
     clock: u64,
+    tail: bool,
 ) -> Act
     requires { ⌜ Open depth (now row) (now since) (now table) ⌝ }
-    ensures { λ r. ⌜ Left depth (now (row .entry)) (now (since .entry)) id clock (now (table .entry)) r (now (table .exit)) ⌝ }
+    ensures { λ r. ⌜ Left tail depth (now (row .entry)) (now (since .entry)) id clock (now (table .entry)) r (now (table .exit)) ⌝ }
 {
     let found = find_call(row, depth, table, id);
     if found == 0 {
         return Act::Refuse(Refusal::NoOpenCall);
     }
-    abandon(row, depth, found, table);
+    let fits = pass(table, row, since, depth, found, clock, tail);
+    if !fits {
+        return Act::Refuse(Refusal::Ticks);
+    }
     let i = found - 1;
     let r = row[i] as usize;
     if close(table, r, since[i], clock) {
@@ -142,5 +163,13 @@ pub fn call<'a>(
     if enters(action) {
         return enter(table, depth, rows, id, now);
     }
-    leave(table, row, since, depth, id, now)
+    leave(
+        table,
+        row,
+        since,
+        depth,
+        id,
+        now,
+        action == Record::TAIL_EXIT,
+    )
 }

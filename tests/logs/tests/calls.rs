@@ -60,6 +60,19 @@ fn kinds_meet_what_they_are_made_for() {
 }
 
 #[test]
+fn ticks_pass_their_top_at_exits_of_both_kinds() {
+    let mut actions = [0; 4];
+    for seed in 0..400 {
+        let log = calls::log(Kind::TickSum, seed);
+        let answer = replay(&log, &mut vec![0; TABLE]);
+        if let Answer::Refused { number: 13, place } = answer {
+            actions[usize::from(log[place as usize] >> 1 & 7)] += 1;
+        }
+    }
+    assert!(actions[1] > 20 && actions[2] > 20, "{actions:?}");
+}
+
+#[test]
 fn backward_calls_and_others_are_both_met() {
     let (mut backward, mut others, mut abandoned) = (0, 0, 0);
     for seed in 0..400 {

@@ -1,7 +1,7 @@
 //! The replay of the call stack. Paper 01, "Replay" for what it counts, and
 //! "The numbered refusals" for the order of tests: 14, then 1 to 4, then at
 //! each record the walk's tests and 9; then for an entry 11 and 12, for an
-//! exit 10 and 13.
+//! exit 10 and 13. Paper 02, CR 3, for what a tail exit closes.
 
 use crate::header;
 use crate::record::{Record, ENTRY_ARGS};
@@ -21,6 +21,8 @@ pub const INPUT: usize = 65_536;
 
 /// The action of an entry without arguments.
 const ENTRY: u8 = 0;
+/// The action of a tail exit.
+const TAIL_EXIT: u8 = 2;
 
 /// The replay's answer; the rows stand in the table.
 #[derive(Debug, Clone, Copy, PartialEq, Eq)]
@@ -145,6 +147,7 @@ impl State {
         self.clock = self.clock.checked_add(u64::from(delta)).ok_or(9)?;
         match action {
             ENTRY | ENTRY_ARGS => self.enter(id),
+            TAIL_EXIT => self.leave_tail(id),
             _ => self.leave(id),
         }
     }
@@ -178,12 +181,36 @@ impl State {
         Ok(row)
     }
 
-    /// "Exit and Tail_Exit close the nearest open call of that id; calls above
-    /// it are abandoned."
+    /// Exit closes "the nearest open call of that id; calls above it are
+    /// abandoned."
     fn leave(&mut self, id: u32) -> Result<(), u8> {
-        let nearest = self.stack.iter().rposition(|call| call.id == id);
-        let at = nearest.ok_or(10)?;
-        let call = &self.stack[at];
+        let at = self.nearest(id)?;
+        for above in self.stack.drain(at + 1..) {
+            self.rows[above.row].abandoned += 1;
+        }
+        self.close_top()
+    }
+
+    /// "On Tail_Exit, close every open call from the top down to and including
+    /// the nearest one of that id, all at this clock".
+    fn leave_tail(&mut self, id: u32) -> Result<(), u8> {
+        let at = self.nearest(id)?;
+        while self.stack.len() > at {
+            self.close_top()?;
+        }
+        Ok(())
+    }
+
+    /// The index of the nearest open call of an id.
+    fn nearest(&self, id: u32) -> Result<usize, u8> {
+        self.stack.iter().rposition(|call| call.id == id).ok_or(10)
+    }
+
+    /// Closes the call at the top, if there is one, at the clock's reading.
+    fn close_top(&mut self) -> Result<(), u8> {
+        let Some(call) = self.stack.pop() else {
+            return Ok(());
+        };
         let row = &mut self.rows[call.row];
         if self.clock < call.opened {
             row.backward += 1;
@@ -192,9 +219,6 @@ impl State {
             row.ticks = row.ticks.checked_add(ticks).ok_or(13)?;
         }
         row.closed += 1;
-        for above in self.stack.drain(at..).skip(1) {
-            self.rows[above.row].abandoned += 1;
-        }
         Ok(())
     }
 

@@ -3,6 +3,9 @@
 use super::maker::Maker;
 use second::record::ENTRY_ARGS;
 
+/// The action of a tail exit.
+const TAIL_EXIT: u8 = 2;
+
 impl Maker<'_> {
     /// Entry, or Entry_Args with a run of arguments.
     pub fn enter(&mut self, id: u32, delta: u32) {
@@ -19,6 +22,10 @@ impl Maker<'_> {
     /// Exit or Tail_Exit.
     pub fn leave(&mut self, id: u32, delta: u32) {
         let action = 1 + self.random.below(2) as u8;
+        self.leave_by(action, id, delta);
+    }
+
+    fn leave_by(&mut self, action: u8, id: u32, delta: u32) {
         self.function(action, id, delta);
         if let Some(at) = self.stack.iter().rposition(|open| *open == id) {
             self.stack.truncate(at);
@@ -98,14 +105,12 @@ impl Maker<'_> {
         }
     }
 
-    /// A call of this id that takes this many ticks, at times with an
-    /// abandoned one in it.
+    /// A call of this id that takes this many ticks, at times with another one
+    /// in it that an Exit abandons.
     pub fn measured(&mut self, id: u32, ticks: u64) {
         let opened = self.random.below((u64::MAX - ticks).saturating_add(1));
         let closed = opened + ticks;
-        self.read_at(opened);
-        let delta = (opened - self.clock) as u32;
-        self.enter(id, delta);
+        self.open_at(id, opened);
         if self.random.once_in(4) {
             let other = self.known();
             if other != id {
@@ -115,6 +120,31 @@ impl Maker<'_> {
         self.read_at(closed);
         let delta = (closed - self.clock) as u32;
         self.leave(id, delta);
+    }
+
+    /// Two calls of this id in one of another, which a Tail_Exit closes with
+    /// them: the two take this many ticks together, and the other's is at times
+    /// backward.
+    pub fn measured_above(&mut self, id: u32, below: u32, ticks: u64) {
+        let first = self.random.below(ticks.saturating_add(1));
+        let parts = [first, ticks - first];
+        let most = parts[0].max(parts[1]);
+        let closed = most + self.random.below((u64::MAX - most).saturating_add(1));
+        let opened = closed.saturating_add(self.random.below(2));
+        self.open_at(below, opened);
+        for part in parts {
+            self.open_at(id, closed - part);
+        }
+        self.read_at(closed);
+        let delta = (closed - self.clock) as u32;
+        self.leave_by(TAIL_EXIT, below, delta);
+    }
+
+    /// A call that is entered at this reading.
+    fn open_at(&mut self, id: u32, reading: u64) {
+        self.read_at(reading);
+        let delta = (reading - self.clock) as u32;
+        self.enter(id, delta);
     }
 
     /// Sets the clock so that a small delta gives this reading.

@@ -66,7 +66,12 @@ pub fn tick_sum(random: &mut Random) -> Vec<u8> {
             _ => part >> (1 + maker.random.below(40)),
         };
         beside_sum(&mut maker);
-        maker.measured(id, ticks);
+        if maker.random.once_in(3) {
+            let below = maker.ids[1];
+            maker.measured_above(id, below, ticks);
+        } else {
+            maker.measured(id, ticks);
+        }
         left -= u128::from(ticks);
     }
     for _ in 0..maker.random.below(5) {

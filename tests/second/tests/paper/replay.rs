@@ -128,7 +128,7 @@ fn calls_above_are_abandoned() {
         .entry(2, 1)
         .entry(3, 1)
         .entry(2, 1)
-        .tail_exit(1, 1)
+        .exit(1, 1)
         .entry(3, 1);
     let rows = [[1, 1, 1, 0, 0, 4], [2, 2, 0, 0, 2, 0], [3, 2, 0, 0, 1, 0]];
     assert_eq!(log.rows(), rows);
@@ -136,6 +136,50 @@ fn calls_above_are_abandoned() {
     let log = Log::new(200, 1).entry(1, 0).entry(2, 0).exit(1, 0);
     let place = log.place();
     assert_eq!(log.exit(2, 0).answer(), refused(10, place));
+}
+
+#[test]
+fn a_tail_exit_closes_the_calls_above() {
+    // At 1004: entered at 1000, 1001 and 1003 (twice the same id), and 1002.
+    let log = Log::new(200, 1000)
+        .entry(1, 0)
+        .entry(2, 1)
+        .entry(3, 1)
+        .entry(2, 1)
+        .tail_exit(1, 1)
+        .entry(3, 1);
+    let rows = [[1, 1, 1, 0, 0, 4], [2, 2, 2, 0, 0, 4], [3, 2, 1, 0, 0, 2]];
+    let (answer, seen) = run(&log.close().bytes);
+    assert_eq!((answer, &seen[..]), (report(3, 1, 10, 1), &rows[..]));
+    // A call that it has closed is no longer open; one below it is, whatever
+    // its id.
+    let log = Log::new(200, 1).entry(1, 0).entry(2, 0).tail_exit(1, 0);
+    let place = log.place();
+    assert_eq!(log.tail_exit(2, 0).answer(), refused(10, place));
+    let log = || Log::new(200, 1).entry(1, 0).entry(1, 3).tail_exit(1, 4);
+    assert_eq!(log().rows(), [[1, 2, 1, 0, 0, 4]]);
+    assert_eq!(log().exit(1, 0).rows(), [[1, 2, 2, 0, 0, 11]]);
+    // Nothing is closed where no call of its id is open.
+    let log = Log::new(200, 1).entry(1, 0).entry(2, 0);
+    let place = log.place();
+    assert_eq!(log.tail_exit(3, 0).answer(), refused(10, place));
+}
+
+#[test]
+fn a_tail_exit_does_what_exits_would() {
+    let open = || {
+        Log::new(300, 70)
+            .entry(1, 3)
+            .entry(2, 5)
+            .cpu(60)
+            .entry(3, 0)
+            .entry(2, 9)
+    };
+    let exits = open().exit(2, 8).exit(3, 0).exit(2, 0).exit(1, 0);
+    // 2 and 1, entered at 78 and 73, are closed at 77.
+    let rows = [[1, 1, 1, 0, 0, 4], [2, 2, 2, 1, 0, 8], [3, 1, 1, 0, 0, 17]];
+    assert_eq!(open().tail_exit(1, 8).rows(), rows);
+    assert_eq!(exits.rows(), rows);
 }
 
 #[test]
@@ -183,4 +227,12 @@ fn backward_calls_add_no_ticks() {
     // The exit's own delta comes first.
     let log = Log::new(200, 1000).entry(1, 0).wrap(999).exit(1, 1);
     assert_eq!(log.rows(), [[1, 1, 1, 0, 0, 0]]);
+    // A tail exit looks at each call's own entry.
+    let log = Log::new(200, 1000)
+        .entry(1, 0)
+        .cpu(500)
+        .entry(2, 0)
+        .cpu(900);
+    let log = log.entry(2, 0).tail_exit(1, 99);
+    assert_eq!(log.rows(), [[1, 1, 1, 1, 0, 0], [2, 2, 2, 0, 0, 598]]);
 }

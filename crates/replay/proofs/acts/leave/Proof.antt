@@ -1,23 +1,42 @@
 -- `replay::acts::leave` meets its contract: the call that is found is closed, or none is. Assumes nothing.
-use mathlib.Core.Path.{refl}
+use mathlib.Core.Path.{_≡_, refl}
+use mathlib.Core.Bool.{true}
 use native.Mathlib.Omega.{arith}
-use Prim.Native.Nat.{_-_}
-use Rattle.replay.proofs.Leaving.{leave-none, closable, acted-popped, acted-over}
+use Prim.Native.Nat.{_-_, _<_}
+use Rattle.replay.proofs.Holding.{searchable}
+use Rattle.replay.proofs.Closing.{closable}
+use Rattle.replay.proofs.Leaving.{leave-none, acted-stopped, acted-popped, acted-over}
+use borrow.Author.Tests.{not-true, not-false}
 use borrow.Author.Needs.{needs}
 use Rattle.replay.proofs.acts.leave.Statement.{statement}
 use Rattle.replay.proofs.acts.leave.Tie as tie
 
 find-call-requires : tie.Need-find-call-requires
-find-call-requires c κs = let h = c .before .before .before .pre .held in (omega (arith, h .shallow, h .wideRow), (λ j l. omega (arith, h .below j l, h .few)), h .long)
+find-call-requires c κs = searchable _ _ _ _ _ _ (c .before .before .before .pre .held)
 
 same-length : tie.Need-same-length
 same-length c = search needs
 
 returns : tie.Need-returns
-returns c = λ most n h. record { outcome = leave-none _ _ _ _ _ _ _ _ h _ (c .before .find-call .ensures) (c .if1 .taken); holds = tt; kept = refl }
+returns c = λ most n h. record { outcome = leave-none _ _ _ _ _ _ _ _ _ h _ (c .before .find-call .ensures) (c .if1 .taken); holds = tt; kept = refl }
 
-abandon-requires : tie.Need-abandon-requires
-abandon-requires c κs = (c .before .before .before .find-call .ensures .within, record { since = c .before .before .before .before .before .before .before .args .since .now; calls = c .before .before .before .before .before .before .before .pre })
+pass-requires : tie.Need-pass-requires
+pass-requires c κs = search needs
+
+same-length-2 : tie.Need-same-length-2
+same-length-2 c = search needs
+
+returns-2 : tie.Need-returns-2
+returns-2 c =
+    let f = c .before .before .before .before .before .before .find-call in
+    λ most n h. acted-stopped _ most n _ _ _ _ _ _ h (f .result) (f .ensures) (omega (arith, c .before .before .before .before .before .if1 .left)) _ _ (c .before .before .before .pass .ensures most n h) (not-true _ (c .if2 .taken))
+
+-- The call at a depth is closed.
+found : (c : tie.Else2) → 0 < c .before .before .before .before .before .before .find-call .result
+found c = omega (arith, c .before .before .before .before .before .if1 .left)
+
+still : (c : tie.Else2) → c .before .before .before .pass .result ≡ true
+still c = not-false _ (c .if2 .left)
 
 sub-i : tie.Need-sub-i
 sub-i c = search needs
@@ -32,7 +51,7 @@ cast-r : tie.Need-cast-r
 cast-r c =
     let h = c .before .before .before .before .before .before .before .before .before .before .before .pre .held in
     let f = c .before .before .before .before .before .before .before .find-call in
-    omega (arith, h .below (f .result - 1) (omega (arith, f .ensures .within, c .before .before .before .before .before .before .if1 .left)), h .few)
+    omega (arith, h .below (f .result - 1) (omega (arith, f .ensures .within, found (c .before))), h .few)
 
 mul-close : tie.Need-mul-close
 mul-close c = search needs
@@ -42,26 +61,27 @@ element-copy-out-close c = search needs
 
 close-requires : tie.Need-close-requires
 close-requires c κs =
-    let o = c .before .before .before .before .before .before .before .before .before .before .before .before .before .pre in
-    let f = c .before .before .before .before .before .before .before .before .before .find-call in
-    let g = c .before .before .before .before .before .abandon .ensures (o .most) (o .rows) _ (o .held) in
-    closable (o .most) (o .rows) _ 0 _ _ _ _ (o .held) (f .result) (f .ensures) (omega (arith, c .before .before .before .before .before .before .before .before .if1 .left)) _ g (o .small)
-
-same-length-2 : tie.Need-same-length-2
-same-length-2 c = search needs
-
-returns-2 : tie.Need-returns-2
-returns-2 c =
-    let f = c .before .before .before .before .before .before .before .before .before .before .before .before .before .find-call in
-    λ most n h. acted-popped most n _ _ _ _ _ _ h (f .result) (f .ensures) (omega (arith, c .before .before .before .before .before .before .before .before .before .before .before .before .if1 .left)) _ (c .before .before .before .before .before .before .before .before .before .abandon .ensures most n _ h) _ _ (c .before .before .before .close .kept .0) (c .before .before .before .close .ensures) (c .if2 .taken)
+    let e = c .before .before .before in
+    let o = e .before .before .before .before .before .before .before .before .before .before .pre in
+    closable (o .most) (o .rows) _ _ _ _ (e .before .before .before .pass .ensures (o .most) (o .rows) (o .held) .held (still e)) (found e) (o .small)
 
 same-length-3 : tie.Need-same-length-3
 same-length-3 c = search needs
 
 returns-3 : tie.Need-returns-3
 returns-3 c =
-    let f = c .before .before .before .before .before .before .before .before .before .before .before .before .before .find-call in
-    λ most n h. acted-over most n _ _ _ _ _ _ h (f .result) (f .ensures) (omega (arith, c .before .before .before .before .before .before .before .before .before .before .before .before .if1 .left)) _ (c .before .before .before .before .before .before .before .before .before .abandon .ensures most n _ h) _ _ (c .before .before .before .close .kept .0) (c .before .before .before .close .ensures) (c .if2 .left)
+    let e = c .before .before .before .before .before .before .before in
+    let f = e .before .before .before .before .before .before .find-call in
+    λ most n h. acted-popped _ most n _ _ _ _ _ _ h (f .result) (f .ensures) (found e) _ _ (e .before .before .before .pass .ensures most n h) (still e) _ _ (c .before .before .before .close .ensures) (c .before .before .before .close .kept .0) (c .if3 .taken)
+
+same-length-4 : tie.Need-same-length-4
+same-length-4 c = search needs
+
+returns-4 : tie.Need-returns-4
+returns-4 c =
+    let e = c .before .before .before .before .before .before .before in
+    let f = e .before .before .before .before .before .before .find-call in
+    λ most n h. acted-over _ most n _ _ _ _ _ _ h (f .result) (f .ensures) (found e) _ _ (e .before .before .before .pass .ensures most n h) (still e) _ _ (c .before .before .before .close .ensures) (c .if3 .left)
 
 pub leave-spec : {M : Type 1} → statement M
 leave-spec =
@@ -70,7 +90,9 @@ leave-spec =
     find-call-requires
     same-length
     returns
-    abandon-requires
+    pass-requires
+    same-length-2
+    returns-2
     sub-i
     mul-r
     element-copy-out-r
@@ -78,7 +100,7 @@ leave-spec =
     mul-close
     element-copy-out-close
     close-requires
-    same-length-2
-    returns-2
     same-length-3
-    returns-3)
+    returns-3
+    same-length-4
+    returns-4)

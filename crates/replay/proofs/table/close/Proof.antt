@@ -8,7 +8,7 @@ use lib.ListN.{length, getD, set}
 use lib.Seq.{getD-set-other}
 use Rattle.replay.specs.Row.{width, closed, backward, ticks}
 use Rattle.replay.specs.Private.{Shut}
-use Rattle.replay.proofs.Leaving.{length-once, shut-backward, shut-measured, shut-over}
+use Rattle.replay.proofs.Closing.{length-once, shut-backward, shut-measured, shut-over}
 use borrow.Author.Needs.{needs}
 use Rattle.replay.proofs.table.close.Statement.{statement}
 use Rattle.replay.proofs.table.close.Tie as tie

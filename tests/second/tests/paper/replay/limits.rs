@@ -104,6 +104,43 @@ fn ticks_end_at_their_top() {
 }
 
 #[test]
+fn ticks_end_at_their_top_in_a_tail_exit_too() {
+    // Two calls of id 2 in one of id 1. The inner has 2^64 - 6 ticks, which is
+    // all there is room for but 5.
+    let two = |outer: u64| {
+        Log::new(400, u64::MAX)
+            .entry(1, 0)
+            .wrap(u64::MAX - 5 - outer)
+            .entry(2, 0)
+            .wrap(0)
+            .entry(2, 0)
+            .wrap(u64::MAX - 5)
+            .tail_exit(1, 0)
+    };
+    let rows = [[1, 1, 1, 1, 0, 0], [2, 2, 2, 0, 0, u64::MAX]];
+    assert_eq!(two(5).rows(), rows);
+    let place = two(6).place() - 8;
+    assert_eq!(two(6).answer(), refused(13, place));
+    // 10 comes first, and a call below doesn't count.
+    let below = |id| {
+        Log::new(400, 0)
+            .entry(1, 0)
+            .wrap(u64::MAX)
+            .exit(1, 0)
+            .wrap(0)
+            .entry(1, 0)
+            .entry(2, 9)
+            .tail_exit(id, 9)
+    };
+    assert_eq!(
+        below(2).rows(),
+        [[1, 2, 1, 0, 0, u64::MAX], [2, 1, 1, 0, 0, 9]]
+    );
+    assert_eq!(below(1).answer(), refused(13, below(1).place() - 8));
+    assert_eq!(below(3).answer(), refused(10, below(3).place() - 8));
+}
+
+#[test]
 fn faults_of_the_walk_come_before_the_replays() {
     // The clock stands at its top when the second buffer starts with an entry.
     let log = Log::new(96, u64::MAX).entry(1, 0).close();
