@@ -20,6 +20,20 @@ Inv-loop table₀ row since depth keep clock tail k₀ table k =
 abbrev μ-loop : tie.MeasureT-loop
 μ-loop table₀ row since depth keep clock tail k₀ table k = k - keep
 
+-- A call is passed.
+abbrev start : tie.In-loop Inv-loop μ-loop → tie.Start Inv-loop μ-loop
+start c = c .before .before .before
+
+-- It is closed, or abandoned.
+abbrev by-tail : tie.Then1 Inv-loop μ-loop → tie.In-loop Inv-loop μ-loop
+by-tail c = c .before .before
+
+abbrev by-other : tie.Else1 Inv-loop μ-loop → tie.In-loop Inv-loop μ-loop
+by-other c = c .before .before
+
+abbrev closed : tie.After-close Inv-loop μ-loop → tie.Then1 Inv-loop μ-loop
+closed c = c .before .before .before
+
 loop-holds : tie.Need-loop-holds Inv-loop μ-loop
 loop-holds c = (omega arith, omega arith, refl, λ most n h. passing-start most n _ _ _ _ _ _ _ h)
 
@@ -30,54 +44,54 @@ mul-r : tie.Need-mul-r Inv-loop μ-loop
 mul-r c = search needs
 
 element-copy-out-r : tie.Need-element-copy-out-r Inv-loop μ-loop
-element-copy-out-r c = omega (arith, c .before .before .before .pre .1 .held .shallow)
+element-copy-out-r c = omega (arith, start c .pre .1 .held .shallow)
 
 cast-r : tie.Need-cast-r Inv-loop μ-loop
 cast-r c =
-    let h = c .before .before .before .before .pre .1 .held in
+    let h = start (c .before) .pre .1 .held in
     omega (arith, h .below (c .before .before .loop .k - 1) (omega arith), h .few)
 
 mul-close : tie.Need-mul-close Inv-loop μ-loop
 mul-close c = search needs
 
 element-copy-out-close : tie.Need-element-copy-out-close Inv-loop μ-loop
-element-copy-out-close c = omega (arith, c .before .before .before .before .before .before .pre .1 .held .shallow)
+element-copy-out-close c = omega (arith, start (by-tail (c .before)) .pre .1 .held .shallow)
 
 close-requires : tie.Need-close-requires Inv-loop μ-loop
 close-requires c κs =
-    let o = c .before .before .before .before .before .before .before .pre .1 in
-    let l = c .before .before .before .before .before .loop in
-    closable (o .most) (o .rows) _ _ _ _ (l .inv .3 (o .most) (o .rows) (o .held) .held) (omega arith) (o .small)
+    let i = by-tail (c .before .before) in
+    let o = start i .pre .1 in
+    closable (o .most) (o .rows) _ _ _ _ (i .before .loop .inv .3 (o .most) (o .rows) (o .held) .held) (omega arith) (o .small)
 
 same-length : tie.Need-same-length Inv-loop μ-loop
-same-length c = c .before .before .before .close .kept .0 ∙ c .before .before .before .before .before .before .before .before .before .loop .inv .2
+same-length c =
+    let k = c .before .before .before in
+    k .close .kept .0 ∙ by-tail (closed k) .before .loop .inv .2
 
 returns : tie.Need-returns Inv-loop μ-loop
 returns c =
-    let i = c .before .before .before .before .before .before in
-    let l = i .before .before .before .loop in
-    let e = c .before .before .before .close in
-    λ most n h. closed-stop most n _ _ _ _ _ _ (l .k) (omega arith) (l .table) _ (i .if1 .taken) (l .inv .3 most n h) _ _ (e .ensures) (not-true _ (c .if2 .taken))
+    let k = c .before .before .before in
+    let l = by-tail (closed k) .before .loop in
+    λ most n h. closed-stop most n _ _ _ _ _ _ (l .k) (omega arith) (l .table) _ (closed k .if1 .taken) (l .inv .3 most n h) _ _ (k .close .ensures) (not-true _ (c .if2 .taken))
 
 loop-less : tie.Need-loop-less Inv-loop μ-loop
 loop-less c = omega arith
 
 loop-again : tie.Need-loop-again Inv-loop μ-loop
 loop-again c =
-    let i = c .before .before .before .before .before .before in
-    let l = i .before .before .before .loop in
-    let e = c .before .before .before .close in (
+    let k = c .before .before .before in
+    let l = by-tail (closed k) .before .loop in (
       omega arith,
       omega arith,
-      e .kept .0 ∙ l .inv .2,
-      λ most n h. closed-turn most n _ _ _ _ _ _ (l .k) (omega arith) (l .table) _ (i .if1 .taken) (l .inv .3 most n h) _ _ (e .ensures) (e .kept .0) (not-false _ (c .if2 .left)),
+      k .close .kept .0 ∙ l .inv .2,
+      λ most n h. closed-turn most n _ _ _ _ _ _ (l .k) (omega arith) (l .table) _ (closed k .if1 .taken) (l .inv .3 most n h) _ _ (k .close .ensures) (k .close .kept .0) (not-false _ (c .if2 .left)),
     )
 
 add-requires : tie.Need-add-requires Inv-loop μ-loop
 add-requires c κs =
-    let o = c .before .before .before .before .before .before .pre .1 in
-    let l = c .before .before .before .before .loop in
-    let h = l .inv .3 (o .most) (o .rows) (o .held) .held in
+    let i = by-other (c .before) in
+    let o = start i .pre .1 in
+    let h = i .before .loop .inv .3 (o .most) (o .rows) (o .held) .held in
     (omega (arith, in-rows _ _ _ _ _ _ h (omega arith), h .few, h .long), omega (arith, room-abandoned _ _ _ _ _ _ h (omega arith), o .small))
 
 loop-less-2 : tie.Need-loop-less-2 Inv-loop μ-loop
@@ -86,7 +100,7 @@ loop-less-2 c = omega arith
 loop-again-2 : tie.Need-loop-again-2 Inv-loop μ-loop
 loop-again-2 c =
     let i = c .before .before .before .before in
-    let l = i .before .before .before .loop in
+    let l = by-other i .before .loop in
     let e = c .before .before .add .ensures in (
       omega arith,
       omega arith,
