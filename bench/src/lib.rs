@@ -1,6 +1,7 @@
-//! What the benchmarks share: logs, processes, measuring in rounds, and the
-//! table.
+//! What the benchmarks share: logs, the limit, processes, measuring in rounds,
+//! and the table.
 
+pub mod limit;
 pub mod log;
 pub mod maker;
 pub mod measure;

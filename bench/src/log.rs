@@ -11,8 +11,11 @@ use std::path::{Path, PathBuf};
 pub enum Kind {
     /// Entry and Exit.
     Plain,
-    /// The same of 1,000 functions, where the other logs have 16.
+    /// The same of 1,000 functions, in any order.
     ManyIds,
+    /// Calls of 1,024 functions, the highest id first and the lowest last, over
+    /// and over.
+    Falling,
     /// Calls with and without arguments, Tail_Exit, events, TSCWrap and
     /// NewCPUId.
     Mixed,
@@ -23,6 +26,7 @@ impl Kind {
         match self {
             Kind::Plain => "plain",
             Kind::ManyIds => "1,000 ids",
+            Kind::Falling => "falling ids",
             Kind::Mixed => "mixed",
         }
     }
@@ -31,6 +35,7 @@ impl Kind {
     pub fn ids(self) -> u64 {
         match self {
             Kind::ManyIds => 1000,
+            Kind::Falling => 1024,
             Kind::Plain | Kind::Mixed => 16,
         }
     }

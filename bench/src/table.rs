@@ -4,9 +4,11 @@ use crate::log::{Folder, Kind, Log};
 use crate::measure::{medians, Cost, Input};
 use crate::{Fallible, MIB};
 
-/// Names of programs: the proved one, whose times are the unit, and the second.
+/// Names of programs: the proved one, whose times are the unit, the second, and
+/// the limit.
 pub const TOWERCLOAK: &str = "towercloak";
 pub const SECOND: &str = "second";
+pub const LIMIT: &str = "limit";
 
 const HEAD: &str = "\
 | job | log | program | time, 1 MiB | 4 MiB | 16 MiB | growth, 4 MiB | 16 MiB | peak, 1 MiB | 4 MiB | 16 MiB |

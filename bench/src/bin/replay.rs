@@ -1,12 +1,13 @@
-//! Measures the replay of logs: in memory the proved one and the second
-//! program's, and as processes the program of `host/` and `llvm-xray account`,
+//! Measures the replay of logs: in memory the proved one, the second program's
+//! and the limit, and as processes the program of `host/` and `llvm-xray account`,
 //! which read the log from its file.
 
+use bench::limit;
 use bench::log::{Kind, Log};
 use bench::maker::FREQUENCY;
 use bench::measure::{clock, mean, passes, Input, Program};
 use bench::process::{self, end, llvm_xray, towercloak, Words};
-use bench::table::{on_logs, Job, SECOND, TOWERCLOAK};
+use bench::table::{on_logs, Job, LIMIT, SECOND, TOWERCLOAK};
 use bench::Fallible;
 use harness::proved;
 use second::replay::{Answer, ROW, TABLE};
@@ -29,6 +30,9 @@ fn check(log: &Log) -> Fallible<()> {
     let numbers = [0, 1, 3].map(|which| proved::replay(&log.bytes, &mut same, which));
     if numbers != [0, rows, records] || same != table {
         return Err(format!("towercloak: {numbers:?}, second: {answer:?}"));
+    }
+    if !limit::replay(&log.bytes, &mut same) || same != table {
+        return Err("limit: another table".to_string());
     }
     printed(&log.path, &table)?;
     accounted(&log.path, &table)
@@ -81,11 +85,13 @@ fn in_memory(log: &Log) -> Input<'_> {
         let answer = second::replay::replay(log, table);
         assert!(matches!(answer, Answer::Report { .. }));
     };
+    let by_limit = |log: &[u8], table: &mut [u64]| assert!(limit::replay(log, table));
     Input {
         bytes: log.bytes.len(),
         programs: vec![
             Program::new(TOWERCLOAK, replaying(by_proved)),
             Program::new(SECOND, replaying(by_second)),
+            Program::new(LIMIT, replaying(by_limit)),
         ],
     }
 }
@@ -103,7 +109,7 @@ fn as_process(log: &Log) -> Input<'_> {
 }
 
 fn measure() -> Fallible<()> {
-    let kinds = [Kind::Plain, Kind::ManyIds, Kind::Mixed];
+    let kinds = [Kind::Plain, Kind::ManyIds, Kind::Falling, Kind::Mixed];
     let jobs: [Job; 2] = [
         ("replay in memory", in_memory),
         ("replay as a process", as_process),

@@ -2,6 +2,8 @@ pub mod Rows
 pub mod Counts
 pub mod Stacks
 pub mod Holding
+pub mod Indexing
+pub mod Ids
 pub mod Entering
 pub mod Closing
 pub mod Passing

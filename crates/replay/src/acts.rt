@@ -8,6 +8,7 @@ ghost use lib.Dec.{eqb};
 ghost use Rattle.replay.specs.Row.{mostRows, cells};
 ghost use Rattle.replay.specs.Private.{RowsBelow, Nearest, Open, Passes, Enterable, Entered, Left, Ready, Called};
 use crate::calls::DEEPEST;
+use crate::index::find_row;
 use crate::row::ABANDONED;
 use crate::row::ENTERED;
 use crate::row::ID;
@@ -16,7 +17,6 @@ use crate::row::WIDTH;
 use crate::table::LARGEST;
 use crate::table::add;
 use crate::table::close;
-use crate::table::find_row;
 use fdr::record::Record;
 use refusal::Refusal;
 
@@ -75,14 +75,22 @@ fn pass<'a>(
 }
 
 // Tests 11 and 12, and counts an entry at a clock.
-fn enter(table: &mut [u64], depth: usize, rows: usize, id: u64, clock: u64) -> Act
-    requires { ⌜ Enterable rows (now table) ⌝ }
-    ensures { λ r. ⌜ Entered rows depth id clock (now (table .entry)) r (now (table .exit)) ⌝ }
+fn enter(
+    table: &mut [u64],
+    index: &mut [u16],
+    cache: &mut [u16],
+    depth: usize,
+    rows: usize,
+    id: u64,
+    clock: u64,
+) -> Act
+    requires { ⌜ Enterable rows (now cache) (now index) (now table) ⌝ }
+    ensures { λ r. ⌜ Entered rows depth id clock (now (table .entry)) r (now (table .exit)) (now (index .exit)) ⌝ }
 {
     if DEEPEST <= depth {
         return Act::Refuse(Refusal::Depth);
     }
-    let r = find_row(table, rows, id);
+    let r = find_row(cache, index, table, rows, id);
     if r < rows {
         add(table, r, ENTERED, 1);
         return Act::Push {
@@ -144,6 +152,8 @@ fn enters(action: u8) -> bool
 // Test 9, and the call that a function record opens or closes.
 pub fn call<'a>(
     table: &mut [u64],
+    index: &mut [u16],
+    cache: &mut [u16],
     row: &'a [u16; 256],
     since: &'a [u64; 256],
     depth: usize,
@@ -153,15 +163,15 @@ pub fn call<'a>(
     id: u64,
     delta: u64,
 ) -> Act
-    requires { ⌜ Ready rows depth (now row) (now since) (now table) ⌝ }
-    ensures { λ r. ⌜ Called rows depth (now (row .entry)) (now (since .entry)) clock action id delta (now (table .entry)) r (now (table .exit)) ⌝ }
+    requires { ⌜ Ready rows depth (now row) (now since) (now cache) (now index) (now table) ⌝ }
+    ensures { λ r. ⌜ Called rows depth (now (row .entry)) (now (since .entry)) clock action id delta (now (table .entry)) r (now (table .exit)) (now (index .exit)) ⌝ }
 {
     if LARGEST - delta < clock {
         return Act::Refuse(Refusal::Clock);
     }
     let now = clock + delta;
     if enters(action) {
-        return enter(table, depth, rows, id, now);
+        return enter(table, index, cache, depth, rows, id, now);
     }
     leave(
         table,

@@ -3,8 +3,8 @@ ghost use mathlib.Core.Path.{_≡_};
 ghost use mathlib.Core.List.{[]};
 ghost use Prim.Native.Nat.{_+_, _*_, _^_, _<_, _≤_};
 ghost use lib.ListN.{length, getD, set};
-ghost use Rattle.replay.specs.Row.{width, cells, tableOf, rowOf};
-ghost use Rattle.replay.specs.Private.{rowsIn, Closable, Closed};
+ghost use Rattle.replay.specs.Row.{width, cells, tableOf};
+ghost use Rattle.replay.specs.Private.{Closable, Closed};
 use crate::row::BACKWARD;
 use crate::row::CELLS;
 use crate::row::CLOSED;
@@ -24,21 +24,6 @@ pub fn clear(table: &mut [u64])
         table[i] = 0;
         i += 1;
     }
-}
-
-// The row of a function, or the number of rows where it has none.
-pub fn find_row(table: &[u64], rows: usize, id: u64) -> usize
-    requires { ⌜ rows * width ≤ length (now table) ⌝ }
-    ensures { λ r. ⌜ r ≡ rowOf (rowsIn rows (now (table .entry))) id ⌝ }
-{
-    let mut r: usize = 0;
-    while r < rows {
-        if table[r * WIDTH + ID] == id {
-            return r;
-        }
-        r += 1;
-    }
-    r
 }
 
 // Adds to a column of a row.
