@@ -42,7 +42,7 @@ returns : tie.Need-returns
 returns c = λ most n h. record { outcome = leave-none _ _ _ _ _ _ _ _ _ h _ (c .before .find-call .ensures) (c .if1 .taken); holds = tt; kept = refl }
 
 pass-requires : tie.Need-pass-requires
-pass-requires c κs = search needs
+pass-requires c κs = (c .before .before .find-call .ensures .within, start (c .before) .pre)
 
 same-length-2 : tie.Need-same-length-2
 same-length-2 c = search needs
