@@ -1,14 +1,15 @@
 -- `replay_stdin::print_row` meets its contract: a row lies in the table. Assumes nothing.
 use borrow.Author.Needs.{needs}
-use Prim.Native.Nat.{_-_, _≤_}
+use Prim.Native.Nat.{_-_, _<_}
+use Rattle.replay.specs.Row.{width}
 use Rattle.replay_stdin.proofs.print_row.Statement.{statement}
 use Rattle.replay_stdin.proofs.print_row.Tie as tie
 
 abbrev Inv-loop : tie.InvT-loop
-Inv-loop table row column₀ t4 t5 column = column ≤ 5
+Inv-loop table row column₀ t4 t5 column = column < width
 
 abbrev μ-loop : tie.MeasureT-loop
-μ-loop table row column₀ t4 t5 column = 5 - column
+μ-loop table row column₀ t4 t5 column = width - column
 
 loop-holds : tie.Need-loop-holds Inv-loop μ-loop
 loop-holds c = search needs
