@@ -8,6 +8,7 @@ pub mod Entering
 pub mod Closing
 pub mod Passing
 pub mod Leaving
+pub mod Settling
 pub mod Stepping
 pub mod TailExits
 pub mod Running

@@ -8,6 +8,7 @@ ghost use lib.Dec.{eqb};
 ghost use Rattle.replay.specs.Row.{mostRows, cells};
 ghost use Rattle.replay.specs.Private.{RowsBelow, Nearest, Open, Passes, Enterable, Entered, Left, Ready, Called};
 use crate::calls::DEEPEST;
+use crate::index::cached;
 use crate::index::find_row;
 use crate::row::ABANDONED;
 use crate::row::ENTERED;
@@ -17,14 +18,30 @@ use crate::row::WIDTH;
 use crate::table::LARGEST;
 use crate::table::add;
 use crate::table::close;
+use crate::usual::settle;
+use crate::usual::usual;
 use fdr::record::Record;
 use refusal::Refusal;
 
-// A call is opened, in a row and at a clock, with so many rows then; the calls down to a depth are closed; or
-// the record is refused.
+// A call is opened, in a row and at a clock, with so many rows then; the calls down to a depth are closed; either of these
+// is done, with a call stored at a place, which for an exit is the one that stood there; or the record is refused.
 pub enum Act {
-    Push { row: u16, rows: usize, clock: u64 },
-    Pop { depth: usize, clock: u64 },
+    Push {
+        row: u16,
+        rows: usize,
+        clock: u64,
+    },
+    Pop {
+        depth: usize,
+        clock: u64,
+    },
+    Move {
+        place: usize,
+        row: u16,
+        since: u64,
+        depth: usize,
+        clock: u64,
+    },
     Refuse(Refusal),
 }
 
@@ -170,6 +187,13 @@ pub fn call<'a>(
         return Act::Refuse(Refusal::Clock);
     }
     let now = clock + delta;
+    if action <= Record::ENTRY_ARGS {
+        let leaves = ((action + 1) / 2 % 2) as u64;
+        let r = cached(cache, id);
+        if usual(table, row, since, depth, rows, leaves, r, id, now) {
+            return settle(table, since, depth, leaves, r, now);
+        }
+    }
     if enters(action) {
         return enter(table, index, cache, depth, rows, id, now);
     }

@@ -1,7 +1,7 @@
 // The row search: an index of the rows in rising order of their ids, and a cache in front of it. Whatever the cache
 // says is tested, so nothing is asked of it. Each row that is compared costs one of a budget.
 ghost use mathlib.Core.Path.{_≡_};
-ghost use Prim.Native.Nat.{_*_, _^_, _+_, _<_, _≤_};
+ghost use Prim.Native.Nat.{_+_, _-_, _*_, _^_, _<_, _≤_};
 ghost use lib.ListN.{length};
 ghost use Rattle.replay.specs.Row.{width, mostRows, rowOf};
 ghost use Rattle.replay.specs.Index.{searchBudget, Looked, Sought, Inserted, Grown};
@@ -10,8 +10,9 @@ use crate::row::ID;
 use crate::row::MOST_ROWS;
 use crate::row::WIDTH;
 
-// How many rows one search may compare. It takes at most 12: one that the cache names, and 11 that halve 1,024.
-const BUDGET: usize = 16;
+// How many rows may be compared for one entry. It takes at most 13: the one that the cache names, by `usual` and by the
+// search, and 11 that halve 1,024.
+pub const BUDGET: usize = 16;
 
 // The places of the cache.
 pub const PLACES: usize = 4096;
@@ -31,7 +32,7 @@ pub struct Found {
 }
 
 // All that a search sees of a row. It takes one of the budget first, which must be there.
-fn look(table: &[u64], row: usize, budget: usize) -> Seen
+pub fn look(table: &[u64], row: usize, budget: usize) -> Seen
     requires { ⌜ (0 < budget) × (row * width + width ≤ length (now table)) ⌝ }
     ensures { λ r. ⌜ Looked (now (table .entry)) row budget r ⌝ }
 {
@@ -79,14 +80,22 @@ fn slot(id: u64) -> usize
     (id % 4294967296 * 2654435769 / 1048576) as usize % PLACES
 }
 
-// Looks for a function where the cache says, then in the index.
+// The row that the cache names for an id.
+pub fn cached(cache: &[u16], id: u64) -> usize
+    requires { ⌜ length (now cache) ≡ places ⌝ }
+{
+    let at = slot(id);
+    cache[at] as usize
+}
+
+// Looks for a function where the cache says, then in the index. `usual` may have compared one row before.
 fn search(cache: &mut [u16], index: &[u16], table: &[u64], rows: usize, id: u64) -> Found
     requires { ⌜ Searchable rows (now index) (now table) × (length (now cache) ≡ places) ⌝ }
-    ensures { λ r. ⌜ Sought searchBudget (rowsIn rows (now (table .entry))) (now (index .entry)) id r ⌝ }
+    ensures { λ r. ⌜ Sought (searchBudget - 1) (rowsIn rows (now (table .entry))) (now (index .entry)) id r ⌝ }
 {
     let at = slot(id);
     let row = cache[at] as usize;
-    let mut left: usize = BUDGET;
+    let mut left: usize = BUDGET - 1;
     if row < rows {
         let seen = look(table, row, left);
         left = seen.left;

@@ -3,7 +3,7 @@ use borrow.Author.Needs.{needs}
 use mathlib.Core.Logic.{⊎-elim}
 use mathlib.Core.Path.{_∙_}
 use native.Mathlib.Omega.{arith}
-use Prim.Native.Nat.{_≤_}
+use Prim.Native.Nat.{_-_, _≤_}
 use Rattle.replay.specs.Index.{searchBudget}
 use Rattle.replay.specs.Private.{rowsIn}
 use Rattle.replay.proofs.Rows.{length-rowsIn, rowOf-within}
@@ -12,7 +12,7 @@ use Rattle.replay.proofs.index.search.Statement.{statement}
 use Rattle.replay.proofs.index.search.Tie as tie
 
 -- What is left of the budget, with or without the cache's row.
-spared : (c : tie.Joined1) → (11 ≤ c .if1 .left) × (c .if1 .left ≤ searchBudget)
+spared : (c : tie.Joined1) → (11 ≤ c .if1 .left) × (c .if1 .left ≤ searchBudget - 1)
 spared c = ⊎-elim (λ w. (omega (arith, w .1 .ensures .paid), omega (arith, w .1 .ensures .paid))) (λ w. (omega arith, omega arith)) (c .if1 .came)
 
 slot-requires : tie.Need-slot-requires
@@ -26,6 +26,9 @@ slice-read-row c = search needs
 
 cast-row : tie.Need-cast-row
 cast-row c = omega (arith, c .slice-known2 .given (c .before .slot .result))
+
+sub-left : tie.Need-sub-left
+sub-left c = search needs
 
 look-requires : tie.Need-look-requires
 look-requires c κs = search needs
@@ -72,6 +75,7 @@ search-spec =
     mul-row
     slice-read-row
     cast-row
+    sub-left
     look-requires
     returns
     halve-requires
