@@ -4,7 +4,7 @@ use mathlib.Core.List.{List, [], _∷_}
 use Rattle.fdr.specs.Header.{Opening, passed, failed}
 use Rattle.replay.specs.Replay.{Verdict, report, refusal}
 
--- 0 where the log was replayed, or the refusal's number, 1 to 14; and the refusal's place. The paper names no place where
+-- 0 where the log was replayed, or the refusal's number; and the refusal's place. The paper names no place where
 -- there is no refusal: 0 stands there.
 abbrev pub replayNumber : Verdict → ℕ
 replayNumber (report rows buffers records calls) = 0

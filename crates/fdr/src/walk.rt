@@ -99,7 +99,7 @@ fn admit(at: Position, end: usize, record: Record, behind: usize) -> Step
     }
 }
 
-// Tests 5 (no byte left), 6 and 5 (the record), then those of `admit`, in a buffer that ends at `end`.
+// Tests 5 (no byte left), 6 or 19 and 5 (the record), then those of `admit`, in a buffer that ends at `end`.
 fn step_in(log: &[u8], at: Position, end: usize) -> Step
     ensures { λ r. ⌜ steppingOf r ≡ stepIn (now (log .entry)) at end ⌝ }
 {

@@ -166,7 +166,8 @@ fn enters(action: u8) -> bool
     action == Record::ENTRY_ARGS
 }
 
-// Test 9, and the call that a function record opens or closes.
+// Test 9, and the call that a function record opens or closes. Most calls are usual ones, so these are looked for first:
+// `leaves` is 1 for Exit and Tail_Exit, and 0 for Entry and Entry_Args.
 pub fn call<'a>(
     table: &mut [u64],
     index: &mut [u16],

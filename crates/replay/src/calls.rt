@@ -45,7 +45,7 @@ impl Calls {
         self
     }
 
-    // Behind an exit, with so many calls below the closed one.
+    // Behind an exit, with so many calls still open.
     pub fn pop(mut self, depth: usize, clock: u64) -> Self
         requires { ⌜ self .records + 1 < 2 ^ 64 ⌝ }
         ensures { λ r. ⌜ r ≡ popped self depth clock ⌝ }

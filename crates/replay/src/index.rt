@@ -4,7 +4,7 @@ ghost use mathlib.Core.Path.{_≡_};
 ghost use Prim.Native.Nat.{_+_, _-_, _*_, _^_, _<_, _≤_};
 ghost use lib.ListN.{length};
 ghost use Rattle.replay.specs.Row.{width, mostRows, rowOf};
-ghost use Rattle.replay.specs.Index.{searchBudget, Looked, Sought, Inserted, Grown};
+ghost use Rattle.replay.specs.Index.{searchBudget, Looked, halved, Searched, Inserted, Grown};
 ghost use Rattle.replay.specs.Private.{rowsIn, places, Searchable};
 use crate::row::ID;
 use crate::row::MOST_ROWS;
@@ -46,7 +46,7 @@ pub fn look(table: &[u64], row: usize, budget: usize) -> Seen
 // Looks for a function in the index. Each row that is compared halves what is left of it.
 fn halve(index: &[u16], table: &[u64], rows: usize, id: u64, budget: usize) -> Found
     requires { ⌜ Searchable rows (now index) (now table) × (rows < 2 ^ budget) ⌝ }
-    ensures { λ r. ⌜ Sought budget (rowsIn rows (now (table .entry))) (now (index .entry)) id r ⌝ }
+    ensures { λ r. ⌜ r ≡ halved budget (rowsIn rows (now (table .entry))) (now (index .entry)) id 0 rows ⌝ }
 {
     let mut low: usize = 0;
     let mut high: usize = rows;
@@ -91,7 +91,7 @@ pub fn cached(cache: &[u16], id: u64) -> usize
 // Looks for a function where the cache says, then in the index. `usual` may have compared one row before.
 fn search(cache: &mut [u16], index: &[u16], table: &[u64], rows: usize, id: u64) -> Found
     requires { ⌜ Searchable rows (now index) (now table) × (length (now cache) ≡ places) ⌝ }
-    ensures { λ r. ⌜ Sought (searchBudget - 1) (rowsIn rows (now (table .entry))) (now (index .entry)) id r ⌝ }
+    ensures { λ r. ⌜ Searched (searchBudget - 1) (rowsIn rows (now (table .entry))) (now (index .entry)) id r ⌝ }
 {
     let at = slot(id);
     let row = cache[at] as usize;

@@ -8,7 +8,6 @@ ghost use Rattle.replay.specs.Private.{Closable, Closed};
 use crate::row::BACKWARD;
 use crate::row::CELLS;
 use crate::row::CLOSED;
-use crate::row::ID;
 use crate::row::TICKS;
 use crate::row::WIDTH;
 

@@ -13,7 +13,7 @@ abbrev pub scrubbingOf : Scrubbed → Ending
 scrubbingOf Clean = allPass
 scrubbingOf (Refused refusal place) = failsBy (numberOf refusal) place
 
--- "The scrubber tests 1 to 8 only, in the replay's order"
+-- "The scrubber tests 1 to 8 only, in the replay's order"; CR 2: "the scrubber tests 19 where replay does"
 abbrev pub scrubbing : List ℕ → Ending
 scrubbing s = ending (trace s)
 

@@ -34,7 +34,7 @@ fn ended(step: Step) -> Scrubbed
     }
 }
 
-// Tests 5 to 8 of all records, from a position on.
+// Tests 5 to 8 and 19 of all records, from a position on.
 fn check(log: &[u8], first: Position) -> Scrubbed
     ensures { λ r. ⌜ scrubbingOf r ≡ ending (traceFrom (now (log .entry)) first) ⌝ }
 {

@@ -72,7 +72,7 @@ pub fn hidden(log: &[u8]) -> Vec<Part> {
 }
 
 /// Scrubs the log in place: "tests 1 to 8 only, in the replay's order, and
-/// changes nothing when it refuses". The error is the refusal's number and
+/// changes nothing when it refuses", and 19 as 6 (paper 02, CR 2). The error is the refusal's number and
 /// place. Takes any log.
 pub fn scrub(log: &mut [u8]) -> Result<(), (u8, u64)> {
     let mut position = check(log)?;

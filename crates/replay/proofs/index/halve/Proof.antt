@@ -1,19 +1,20 @@
--- `replay::index::halve` meets its contract: the id lies in what is left of the index, or has no row, and that is fewer rows than the budget can halve. Assumes nothing.
-use mathlib.Core.Path.{_≡_, sym, _∙_}
+-- `replay::index::halve` meets its contract: what is searched in what is left, with what is left, is what is searched in all. There are fewer places than the budget can halve. Assumes nothing.
+use mathlib.Core.Path.{_≡_, refl, sym, ap, _∙_}
 use mathlib.Core.List.{List}
 use native.Mathlib.Omega.{arith}
-use Prim.Native.Nat.{ℕ, _+_, _-_, _/_, _^_, _<_, _≤_}
+use Prim.Native.Nat.{ℕ, suc, _+_, _-_, _/_, _^_, _<_, _≤_}
 use lib.ListN.{length, getD}
 use Rattle.replay.specs.Row.{Row}
-use Rattle.replay.specs.Index.{idOf}
+use Rattle.replay.specs.Index.{idOf, halved}
+use Rattle.replay.specs.declared.index.Found.{Found}
 use Rattle.replay.specs.Private.{rowsIn}
 use Rattle.replay.proofs.Rows.{length-rowsIn}
-use Rattle.replay.proofs.Indexing.{paid, halved, shown-id, in-index, Halving, halving-start, halving-over, is-row, no-row, halving-up, halving-down}
+use Rattle.replay.proofs.Indexing.{paid, half, shown-id, in-index, halved-over, halved-hit, halved-up, halved-down}
 use Rattle.replay.proofs.index.halve.Statement.{statement}
 use Rattle.replay.proofs.index.halve.Tie as tie
 
 abbrev Inv-loop : tie.InvT-loop
-Inv-loop index table rows f budget low₀ high₀ left₀ low high left = Halving (rowsIn rows table) index f low high × (left ≤ budget) × (high - low < 2 ^ left)
+Inv-loop index table rows f budget low₀ high₀ left₀ low high left = (low ≤ high) × (high ≤ rows) × (high - low < 2 ^ left) × (halved left (rowsIn rows table) index f low high ≡ halved budget (rowsIn rows table) index f 0 rows)
 
 abbrev μ-loop : tie.MeasureT-loop
 μ-loop index table rows f budget low₀ high₀ left₀ low high left = high - low
@@ -35,7 +36,7 @@ abbrev middle : Turn → ℕ
 middle c = c .before .loop .low + (c .before .loop .high - c .before .loop .low) / 2
 
 below : (c : Turn) → middle c < start c .args .rows
-below c = omega (arith, c .before .loop .inv .0 .within, few c)
+below c = omega (arith, c .before .loop .inv .1)
 
 -- The row that is compared.
 abbrev row : Turn → ℕ
@@ -55,10 +56,10 @@ shown : (c : Look) → idOf (rows (turn c)) (row (turn c)) ≡ c .look .result .
 shown c = shown-id (start (turn c) .args .rows) (start (turn c) .args .table .now) (row (turn c)) (c .look .result .id) (among (turn c)) (c .look .ensures .shown)
 
 loop-holds : tie.Need-loop-holds Inv-loop μ-loop
-loop-holds c = (halving-start _ _ _ _ (sym (length-rowsIn _ _)), omega arith, omega (arith, c .before .before .pre .1))
+loop-holds c = (omega arith, omega arith, omega (arith, c .before .before .pre .1), refl)
 
 sub-place : tie.Need-sub-place Inv-loop μ-loop
-sub-place c = omega (arith, c .before .loop .inv .0 .order)
+sub-place c = omega (arith, c .before .loop .inv .0)
 
 add-place : tie.Need-add-place Inv-loop μ-loop
 add-place c = omega (arith, below c, start c .pre .0 .few)
@@ -79,15 +80,21 @@ look-requires c κs =
       omega (arith, among (c .before), start (c .before) .pre .0 .few, start (c .before) .pre .0 .long),
     )
 
+-- One turn of the search that is left.
+spent : (c : Look) → suc (c .look .result .left) ≡ turn c .before .loop .left
+spent c = omega (arith, c .look .ensures .paid)
+
+abbrev rest : Look → ℕ → Found
+rest c left = halved left (rows (turn c)) (start (turn c) .args .index .now) (start (turn c) .args .id) (turn c .before .loop .low) (turn c .before .loop .high)
+
+on : (c : Look) (x : Found) → rest c (suc (c .look .result .left)) ≡ x → x ≡ halved (start (turn c) .args .budget) (rows (turn c)) (start (turn c) .args .index .now) (start (turn c) .args .id) 0 (start (turn c) .args .rows)
+on c x e = sym e ∙ ap (rest c) (spent c) ∙ turn c .before .loop .inv .3
+
 returns : tie.Need-returns Inv-loop μ-loop
 returns c =
     let d = c .before .before in
-    let t = turn d in
-    record {
-      row = is-row (rows t) (start t .args .index .now) (start t .pre .0 .indexed) _ (row t) (omega (arith, among t, few t)) (shown d ∙ c .if1 .taken);
-      left = omega (arith, d .look .ensures .paid, t .before .loop .inv .1);
-      gap = λ past. absurd (omega (arith, among t, few t));
-    }
+    let l = turn d .before .loop in
+    on d _ (halved-hit (rows (turn d)) (start (turn d) .args .index .now) _ (l .low) (l .high) _ (omega (arith, turn d .loop-test .taken)) (shown d ∙ c .if1 .taken))
 
 add-low : tie.Need-add-low Inv-loop μ-loop
 add-low c = let t = turn (c .before .before .before .before) in omega (arith, below t, start t .pre .0 .few)
@@ -100,9 +107,10 @@ loop-again c =
     let d = c .before .before .before .before in
     let t = turn d in
     let l = t .before .loop in (
-      halving-up (rows t) (start t .args .index .now) (start t .pre .0 .indexed) _ (l .low) (l .high) (middle t) (l .inv .0) (omega arith) (omega arith) _ (omega arith) (omega (arith, shown d, c .if2 .taken)),
-      omega (arith, d .look .ensures .paid, l .inv .1),
-      halved (l .left) (d .look .result .left) (l .high - l .low) _ (d .look .ensures .paid) (l .inv .2) (omega arith),
+      omega arith,
+      l .inv .1,
+      half (l .left) (d .look .result .left) (l .high - l .low) _ (d .look .ensures .paid) (l .inv .2) (omega arith),
+      on d _ (halved-up (rows t) (start t .args .index .now) _ (l .low) (l .high) _ (omega (arith, t .loop-test .taken)) (omega (arith, shown d, c .if2 .taken))),
     )
 
 loop-less-2 : tie.Need-loop-less-2 Inv-loop μ-loop
@@ -113,21 +121,19 @@ loop-again-2 c =
     let d = c .before .before .before .before in
     let t = turn d in
     let l = t .before .loop in (
-      halving-down (rows t) (start t .args .index .now) (start t .pre .0 .indexed) _ (l .low) (l .high) (middle t) (l .inv .0) (omega arith) (omega arith) _ (omega arith) (omega arith) (omega (arith, shown d, c .if2 .left, c .before .before .if1 .left)),
-      omega (arith, d .look .ensures .paid, l .inv .1),
-      halved (l .left) (d .look .result .left) (l .high - l .low) _ (d .look .ensures .paid) (l .inv .2) (omega arith),
+      omega arith,
+      omega (arith, l .inv .1),
+      half (l .left) (d .look .result .left) (l .high - l .low) _ (d .look .ensures .paid) (l .inv .2) (omega arith),
+      on d _ (halved-down (rows t) (start t .args .index .now) _ (l .low) (l .high) _ (omega (arith, t .loop-test .taken)) (omega (arith, shown d, c .if2 .left, c .before .before .if1 .left))),
     )
 
 returns-2 : tie.Need-returns-2 Inv-loop μ-loop
 returns-2 c =
     let l = c .before .loop in
     let s = c .before .before .before .before in
-    let g = halving-over (rowsIn (s .args .rows) (s .args .table .now)) (s .args .index .now) _ _ _ (l .inv .0) (omega arith) in
-    record {
-      row = sym (length-rowsIn (s .args .rows) (s .args .table .now)) ∙ no-row _ _ (s .pre .0 .indexed) _ _ g;
-      left = l .inv .1;
-      gap = λ past. g;
-    }
+    ap (λ (n : ℕ). record { row = n; place = l .low; left = l .left }) (sym (length-rowsIn (s .args .rows) (s .args .table .now)))
+    ∙ sym (halved-over (rowsIn (s .args .rows) (s .args .table .now)) (s .args .index .now) _ (l .low) (l .high) (l .left) (omega (arith, c .loop-test .left)))
+    ∙ l .inv .3
 
 pub halve-spec : {M : Type 1} → statement M
 halve-spec =

@@ -6,7 +6,7 @@ use Prim.Native.Nat.{ℕ, _+_, _-_, _*_}
 use lib.ListN.{length, getD, length-set}
 use lib.Seq.{getD-set-other}
 use Rattle.replay.specs.Row.{width, entered, ticks}
-use Rattle.replay.specs.Private.{pick, grown, settled}
+use Rattle.replay.specs.Private.{pick, raised, settled}
 use Rattle.replay.specs.declared.acts.Act.the-variants.{Move}
 use Rattle.replay.proofs.Settling.{pick-mono, pick-sum}
 use borrow.Author.Needs.{needs}
@@ -84,7 +84,7 @@ returns c =
     let from : c .before .before .before .before .before .before .before .before .before .before .picked .result + c .picked3 .result ≡ pick (s .args .leaves) (getD (s .args .since .now) top 0) + pick (1 - s .args .leaves) (s .args .clock) = omega (arith, p, c .picked3 .ensures) in (
       ap (λ (x : ℕ). Move top (s .args .r) x (s .args .depth + 1 - s .args .leaves - s .args .leaves) (s .args .clock)) from,
       c .before .before .before .add2 .ensures
-          ∙ ap (λ (x : List ℕ). grown (s .args .r) ticks (c .before .before .before .before .before .before .before .before .before .picked2 .result - c .before .before .before .before .before .before .before .before .before .before .picked .result) x) (a .add .ensures)
+          ∙ ap (λ (x : List ℕ). raised (s .args .r) ticks (c .before .before .before .before .before .before .before .before .before .picked2 .result - c .before .before .before .before .before .before .before .before .before .before .picked .result) x) (a .add .ensures)
           ∙ ap (λ (x : ℕ). settled (s .args .leaves) (s .args .r) x (s .args .table .now)) more,
     )
 
