@@ -33,6 +33,16 @@ now c = start c .args .clock + start c .args .delta
 one : (c : Told) → leaves c ≤ 1
 one c = by-leaves (start c .args .action) (omega (arith, c .before .before .before .before .if2 .taken)) .2
 
+-- It is no usual one: an entry, or an exit.
+abbrev entering : tie.Then4 → tie.Start
+entering c = c .before .before .before .before .before .before .before
+
+abbrev leaving : tie.Else4 → tie.Start
+leaving c = c .before .before .before .before .before .before .before
+
+abbrev entered : tie.After-slice-known7 → tie.After-enter
+entered c = c .before .before .before .before .before .before
+
 sub-if1 : tie.Need-sub-if1
 sub-if1 c = search needs
 
@@ -102,7 +112,7 @@ enters-requires : tie.Need-enters-requires
 enters-requires c κs = search needs
 
 enter-requires : tie.Need-enter-requires
-enter-requires c κs = let h = c .before .before .before .before .before .before .before .before .before .before .pre in record { search = h .search; wide = h .wide; room = omega (arith, h .held .total, h .small) }
+enter-requires c κs = let h = entering (c .before .before .before) .pre in record { search = h .search; wide = h .wide; room = omega (arith, h .held .total, h .small) }
 
 same-length-3 : tie.Need-same-length-3
 same-length-3 c = search needs
@@ -115,13 +125,13 @@ same-length-5 c = search needs
 
 returns-3 : tie.Need-returns-3
 returns-3 c = λ most h.
-    let e = c .before .before .before .before .before .before in
+    let e = entered c in
     let n = e .enter .ensures most _ _ h in
     let t = e .before .before .before .before in
     (record { outcome = n .0 .outcome ∙ is-entry _ _ _ _ (omega (arith, t .before .before .before .if1 .left)) (sym (t .before .enters .ensures) ∙ t .if4 .taken); holds = n .0 .holds; kept = n .0 .kept }, n .1)
 
 leave-requires : tie.Need-leave-requires
-leave-requires c κs = let s = c .before .before .before .before .before .before .before .before in record { most = s .pre .most; rows = s .args .rows; held = s .pre .held; small = omega (arith, s .pre .small) }
+leave-requires c κs = let s = leaving (c .before) in record { most = s .pre .most; rows = s .args .rows; held = s .pre .held; small = omega (arith, s .pre .small) }
 
 same-length-6 : tie.Need-same-length-6
 same-length-6 c = search needs
@@ -131,7 +141,7 @@ returns-4 c = λ most h.
     let e = c .before .before in
     let n = e .leave .ensures most _ h in
     let t = e .before .before in
-    let s = t .before .before .before .before .before .before .before in (
+    let s = leaving t in (
       record { outcome = n .outcome ∙ is-exit _ _ _ _ (omega (arith, t .before .before .before .if1 .left)) (sym (t .before .enters .ensures) ∙ t .if4 .left); holds = n .holds; kept = n .kept },
       orders-kept (s .args .rows) (s .args .depth) (s .args .row .now) (s .args .since .now) _ (e .leave .result) _ (s .args .index .now) _ (n .outcome) (keeps-leave _ _ (s .args .id)) (s .pre .search .indexed),
     )

@@ -18,6 +18,13 @@ Found = tie.After-find-row
 abbrev start : Found → tie.Start
 start c = c .before .before .before .before .before .before .before .before
 
+-- It has a row, which is added to; and there is no room for another.
+abbrev known : tie.After-add-arg → Found
+known c = c .before .before .before .before .before .before
+
+abbrev full : tie.Then3 → Found
+full c = c .before .before .before .before .before .before
+
 shallow : (c : Found) → start c .args .depth < deepest
 shallow c = omega (arith, c .before .before .before .before .if1 .left)
 
@@ -39,7 +46,7 @@ find-row-requires c κs = search needs
 
 add-requires : tie.Need-add-requires
 add-requires c κs =
-    let d = c .before .before .before .before .before .before in
+    let d = known c in
     let s = start d in
     let r = room-entered (s .args .rows) (d .find-row .result) (s .args .cache .now) (s .args .index .now) (s .args .table .now) (s .pre) (c .before .if2 .taken) in
     (r .0, omega (arith, r .1, s .pre .room))
@@ -58,7 +65,7 @@ same-length-3 c = search needs
 
 returns-2 : tie.Need-returns-2
 returns-2 c =
-    let d = c .before .before .before .before .before .before .before .before .before in
+    let d = known (c .before .before .before) in
     let a = start d .args in
     let f = d .find-row .ensures in
     let lk = c .before .before .before .before .if2 .taken in
@@ -82,7 +89,7 @@ same-length-6 : tie.Need-same-length-6
 same-length-6 c = search needs
 
 returns-3 : tie.Need-returns-3
-returns-3 c = λ most row since h. (record { outcome = enter-full _ _ _ _ _ _ _ _ h (shallow (c .before .before .before .before .before .before)) _ (c .before .before .before .before .before .before .find-row .ensures .0) (c .before .if2 .left) (c .if3 .taken); holds = tt; kept = refl }, tt)
+returns-3 c = λ most row since h. (record { outcome = enter-full _ _ _ _ _ _ _ _ h (shallow (full c)) _ (full c .find-row .ensures .0) (c .before .if2 .left) (c .if3 .taken); holds = tt; kept = refl }, tt)
 
 mul-table : tie.Need-mul-table
 mul-table c = omega (arith, next c, c .if3 .left, long c)

@@ -13,6 +13,17 @@ use borrow.Author.Needs.{needs}
 use Rattle.replay.proofs.usual.settle.Statement.{statement}
 use Rattle.replay.proofs.usual.settle.Tie as tie
 
+-- The call is counted: the places behind it.
+abbrev start : tie.After-add → tie.Start
+start c = c .before .before .before .before .before .before
+
+abbrev counted : tie.After-picked3 → tie.After-add
+counted c = c .before .before .before .before .before .before .before
+
+-- The numbers of an exit: its clock, and in front of it the clock at the entry.
+abbrev known : tie.After-picked3 → tie.After-picked2
+known c = counted c .before .before
+
 sub-top : tie.Need-sub-top
 sub-top c = search needs
 
@@ -42,7 +53,7 @@ add-requires c κs = search needs
 add-requires-2 : tie.Need-add-requires-2
 add-requires-2 c κs =
     let a = c .before .before .before in
-    let s = a .before .before .before .before .before .before in
+    let s = start a in
     let len = ap length (a .add .ensures) ∙ length-set (s .args .table .now) (s .args .r * width + (entered + s .args .leaves)) _ in
     let same = ap (λ (x : List ℕ). getD x (s .args .r * width + ticks) 0) (a .add .ensures) ∙ getD-set-other (s .args .table .now) (s .args .r * width + (entered + s .args .leaves)) (s .args .r * width + ticks) _ 0 (omega (arith, s .pre .one)) in
     (omega (arith, len, s .pre .few, s .pre .long), omega (arith, same, s .pre .fits, a .before .before .picked2 .ensures, a .before .before .before .picked .ensures))
@@ -58,8 +69,8 @@ picked-requires-3 c κs = search needs
 
 add-t22 : tie.Need-add-t22
 add-t22 c =
-    let s = c .before .before .before .before .before .before .before .before .before .before .before .before .before in
-    omega (arith, c .picked3 .ensures, c .before .before .before .before .before .before .before .before .before .before .picked .ensures, pick-sum (s .args .leaves) (getD (s .args .since .now) (s .args .depth - s .args .leaves) 0) (s .args .clock) (s .pre .one) (s .pre .later))
+    let s = start (counted c) in
+    omega (arith, c .picked3 .ensures, known c .before .picked .ensures, pick-sum (s .args .leaves) (getD (s .args .since .now) (s .args .depth - s .args .leaves) 0) (s .args .clock) (s .pre .one) (s .pre .later))
 
 add-t11 : tie.Need-add-t11
 add-t11 c = search needs
@@ -75,16 +86,17 @@ same-length c = search needs
 
 returns : tie.Need-returns
 returns c =
-    let s = c .before .before .before .before .before .before .before .before .before .before .before .before .before in
-    let a = c .before .before .before .before .before .before .before in
-    let p = c .before .before .before .before .before .before .before .before .before .before .picked .ensures in
-    let q = c .before .before .before .before .before .before .before .before .before .picked2 .ensures in
+    let a = counted c in
+    let s = start a in
+    let k = known c in
+    let p = k .before .picked .ensures in
+    let q = k .picked2 .ensures in
     let top = s .args .depth - s .args .leaves in
-    let more : c .before .before .before .before .before .before .before .before .before .picked2 .result - c .before .before .before .before .before .before .before .before .before .before .picked .result ≡ pick (s .args .leaves) (s .args .clock) - pick (s .args .leaves) (getD (s .args .since .now) top 0) = omega (arith, p, q) in
-    let from : c .before .before .before .before .before .before .before .before .before .before .picked .result + c .picked3 .result ≡ pick (s .args .leaves) (getD (s .args .since .now) top 0) + pick (1 - s .args .leaves) (s .args .clock) = omega (arith, p, c .picked3 .ensures) in (
+    let more : k .picked2 .result - k .before .picked .result ≡ pick (s .args .leaves) (s .args .clock) - pick (s .args .leaves) (getD (s .args .since .now) top 0) = omega (arith, p, q) in
+    let from : k .before .picked .result + c .picked3 .result ≡ pick (s .args .leaves) (getD (s .args .since .now) top 0) + pick (1 - s .args .leaves) (s .args .clock) = omega (arith, p, c .picked3 .ensures) in (
       ap (λ (x : ℕ). Move top (s .args .r) x (s .args .depth + 1 - s .args .leaves - s .args .leaves) (s .args .clock)) from,
       c .before .before .before .add2 .ensures
-          ∙ ap (λ (x : List ℕ). raised (s .args .r) ticks (c .before .before .before .before .before .before .before .before .before .picked2 .result - c .before .before .before .before .before .before .before .before .before .before .picked .result) x) (a .add .ensures)
+          ∙ ap (λ (x : List ℕ). raised (s .args .r) ticks (k .picked2 .result - k .before .picked .result) x) (a .add .ensures)
           ∙ ap (λ (x : ℕ). settled (s .args .leaves) (s .args .r) x (s .args .table .now)) more,
     )
 

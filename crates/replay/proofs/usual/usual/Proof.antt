@@ -11,6 +11,19 @@ use borrow.Author.Needs.{needs}
 use Rattle.replay.proofs.usual.usual.Statement.{statement}
 use Rattle.replay.proofs.usual.usual.Tie as tie
 
+-- The places behind the tests that passed: of the clock at the entry, of the row, of the depth, and the start.
+abbrev own : tie.After-picked3 → tie.Else5
+own c = c .before .before
+
+abbrev room : tie.Else5 → tie.Else4
+room c = c .before .before .before .before .before
+
+abbrev start : tie.Else4 → tie.Start
+start c = c .before .before .before .before .before .before .before
+
+abbrev begun : tie.After-picked3 → tie.Start
+begun c = start (room (own c))
+
 returns : tie.Need-returns
 returns c = λ e. clash (cc)
 
@@ -69,14 +82,14 @@ shared-slice-read-if7 : tie.Need-shared-slice-read-if7
 shared-slice-read-if7 c = search needs
 
 sub-if7 : tie.Need-sub-if7
-sub-if7 c = let s = c .before .before .before .before .before .before .before .before .before .before .before .before .before .before .before .before in omega (arith, c .shared-slice-known2 .given (s .args .r * width + ticks))
+sub-if7 c = let s = begun (c .before .before) in omega (arith, c .shared-slice-known2 .given (s .args .r * width + ticks))
 
 picked-requires-4 : tie.Need-picked-requires-4
 picked-requires-4 c κs = search needs
 
 sub-if7-2 : tie.Need-sub-if7-2
 sub-if7-2 c =
-    let s = c .before .before .before .before .before .before .before .before .before .before .before .before .before .before .before .before .before in
+    let s = begun (c .before .before .before) in
     omega (arith, c .before .before .before .picked3 .ensures, c .picked4 .ensures, pick-mono (s .args .leaves) (getD (s .args .since .now) (s .args .depth - s .args .leaves) 0) (s .args .clock) (omega (arith, c .before .before .before .picked3 .ensures, c .before .before .if6 .left)))
 
 returns-7 : tie.Need-returns-7
@@ -84,14 +97,17 @@ returns-7 c = λ e. clash (cc)
 
 returns-8 : tie.Need-returns-8
 returns-8 c =
-    let s = c .before .before .before .before .before .before .before .before .before .before .before .before .before .before .before .before .before .before in
-    let p = c .before .before .before .before .picked3 .ensures in
+    let first = c .before .before .before .before in
+    let o = own first in
+    let r = room o in
+    let s = start r in
+    let p = first .picked3 .ensures in
     λ _. record {
-      known = c .before .before .before .before .before .before .before .before .before .before .before .before .before .before .before .before .if1 .left;
-      same = sym (c .before .before .before .before .before .before .before .before .before .before .before .before .before .before .before .look .ensures .shown) ∙ c .before .before .before .before .before .before .before .before .before .before .before .before .before .if2 .left;
-      some = c .before .before .before .before .before .before .before .before .before .before .before .before .if3 .left;
-      room = c .before .before .before .before .before .before .before .before .before .before .before .if4 .left;
-      own = ap (pick (s .args .leaves)) (sym (c .before .before .before .before .before .before .before .before .before .wide .ensures)) ∙ sym (c .before .before .before .before .before .before .before .before .picked .ensures) ∙ c .before .before .before .before .before .before .if5 .left ∙ c .before .before .before .before .before .before .before .picked2 .ensures;
+      known = r .before .before .before .before .before .if1 .left;
+      same = sym (r .before .before .before .before .look .ensures .shown) ∙ r .before .before .if2 .left;
+      some = r .before .if3 .left;
+      room = r .if4 .left;
+      own = ap (pick (s .args .leaves)) (sym (o .before .before .before .wide .ensures)) ∙ sym (o .before .before .picked .ensures) ∙ o .if5 .left ∙ o .before .picked2 .ensures;
       later = omega (arith, p, c .before .before .before .if6 .left);
       fits = omega (arith, p, c .before .picked4 .ensures, c .if7 .left, c .before .before .shared-slice-known2 .given (s .args .r * width + ticks));
     }
