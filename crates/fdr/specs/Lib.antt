@@ -11,5 +11,4 @@ pub mod Trace
 pub mod Hidden
 pub mod Encoded
 pub mod Sample
-pub mod Ahead
 pub mod Private

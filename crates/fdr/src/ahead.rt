@@ -2,8 +2,7 @@
 ghost use mathlib.Core.Path.{_≡_};
 ghost use Prim.Native.Nat.{_+_, _^_, _<_};
 ghost use Rattle.fdr.specs.Walk.{next};
-ghost use Rattle.fdr.specs.Ahead.{callingOf, callIn};
-ghost use Rattle.fdr.specs.Private.{behindCall};
+ghost use Rattle.fdr.specs.Private.{behindCall, callingOf, callIn};
 use crate::bits::First;
 use crate::bits::told_by;
 use crate::decode::function_at;

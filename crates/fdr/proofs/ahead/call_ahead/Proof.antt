@@ -6,7 +6,7 @@ use native.Mathlib.Omega.{arith}
 use borrow.Author.Tests.{not-true, not-false}
 use Rattle.fdr.specs.Record.{kindOf}
 use Rattle.fdr.specs.Decoded.{functionAt}
-use Rattle.fdr.specs.Ahead.{call}
+use Rattle.fdr.specs.Private.{call}
 use Rattle.fdr.specs.Grammar.{isOpen}
 use Rattle.fdr.proofs.Records.{not-kind}
 use Rattle.fdr.proofs.Decoding.{tells}
