@@ -10,6 +10,7 @@ use Rattle.fdr.specs.Number.{byteAt}
 use Rattle.fdr.specs.Record.{eventSize, Typed}
 use Rattle.fdr.specs.Grammar.{isOpen, joins, agreedWith}
 use Rattle.record_writer.specs.Writing.{eventOf, fieldTests}
+use Rattle.fdr.specs.declared.form.Form.{Form}
 use Rattle.fdr.specs.declared.record.Record.{Record}
 use Rattle.fdr.specs.declared.grammar.Stage.the-variants.{Between}
 use Rattle.fdr.specs.declared.grammar.Threads.{Threads}
@@ -29,13 +30,13 @@ use Rattle.log_writer.proofs.Putting.{length-put, put-before, put-there}
 use Rattle.log_writer.proofs.Buffers.{length-leading, length-closing}
 use Rattle.demands.proofs.Walking.{ReadsTo, goes-on, posOf, reads-added, reads-closed, reads-opened}
 
--- In front of the first buffer of a log with buffers of a size.
-abbrev pub startAt : ℕ → Position
-startAt size = record { place = 32; end = 32; size = size; stage = Between; threads = Unseen }
+-- In front of the first buffer of a log of a form, with buffers of a size.
+abbrev pub startAt : Form → ℕ → Position
+startAt f size = record { form = f; place = 32; end = 32; size = size; stage = Between; threads = Unseen }
 
 -- The state is sound; the output starts with the header; and in each log with these bytes the walk comes to where the
 -- writer stands, past the records.
-pub record Written (header : List ℕ) (size room : ℕ) (w : Writer) (out : List ℕ) (logged : List Logged) : Type 0 where
+pub record Written (f : Form) (header : List ℕ) (size room : ℕ) (w : Writer) (out : List ℕ) (logged : List Logged) : Type 0 where
   pub threads : Threads
   pub agreed : agreedWith threads (w .thread) ≡ joins (One (w .thread))
   pub small : w .thread < 2 ^ 16
@@ -43,7 +44,7 @@ pub record Written (header : List ℕ) (size room : ℕ) (w : Writer) (out : Lis
   pub long : length out ≡ room
   pub state : Sound w room
   pub headed : (i : ℕ) → i < 32 → byteAt out i ≡ byteAt header i
-  pub read : (s : List ℕ) → w .end ≤ length s → ((i : ℕ) → i < w .place → byteAt s i ≡ byteAt out i) → ReadsTo s (startAt size) (posOf w threads) logged
+  pub read : (s : List ℕ) → w .end ≤ length s → ((i : ℕ) → i < w .place → byteAt s i ≡ byteAt out i) → ReadsTo s (startAt f size) (posOf w threads) logged
 
 agreed-again : (thread : ℕ) → agreedWith (One thread) thread ≡ joins (One thread)
 agreed-again thread = rw (eq-eqb thread thread refl, agreedWith)
@@ -59,9 +60,9 @@ moved-on {room} {w} s closing p =
     let fits : w .place + 16 ≤ w .end = in-buffer s (not-false _ (p .0)) .fits in
     (omega (arith, length-closing w fits), omega arith)
 
-module _ (header : List ℕ) (size room : ℕ) (w : Writer) (out : List ℕ) (logged : List Logged) (h : Written header size room w out logged) where
+module _ (f : Form) (header : List ℕ) (size room : ℕ) (w : Writer) (out : List ℕ) (logged : List Logged) (h : Written f header size room w out logged) where
   abbrev Result : Call → Type 0
-  Result c = Written header size room (stateAfter w c) (put (callBytes w c) (w .place) out) (logged ++ loggedBy w c)
+  Result c = Written f header size room (stateAfter w c) (put (callBytes w c) (w .place) out) (logged ++ loggedBy w c)
 
   put-on : (c : Call) → Passes (callTests w c room) → (threads : Threads) → agreedWith threads (w .thread) ≡ joins (One (w .thread))
       → ((s : List ℕ) → stateAfter w c .end ≤ length s → Here s (w .place) (callBytes w c) → ReadsTo s (posOf w (h .threads)) (posOf (stateAfter w c) threads) (loggedBy w c))
@@ -92,7 +93,7 @@ module _ (header : List ℕ) (size room : ℕ) (w : Writer) (out : List ℕ) (lo
   added r given typed p =
       let t : takes (w .stage) r ≡ true = not-false _ (p .0) in
       let own : length (eventOf r given) ≡ eventSize r = sym (eqb-true _ _ (not-false _ (p .1 .0))) in
-      let fits : w .place + length (addedBytes r given) + 16 ≤ w .end = ltb-false _ _ (passes-behind (fieldTests r) _ (p .1 .1) .0) in
+      let fits : w .place + length (addedBytes (w .form) r given) + 16 ≤ w .end = ltb-false _ _ (passes-behind (fieldTests r) _ (p .1 .1) .0) in
       put-on (adding r given) p (h .threads) (h .agreed)
       (λ s inLog here. reads-added s w (h .threads) r given inLog t own (fields-bound r typed (passes-first (fieldTests r) _ (p .1 .1))) (omega arith) here)
 
@@ -106,19 +107,19 @@ module _ (header : List ℕ) (size room : ℕ) (w : Writer) (out : List ℕ) (lo
       let o : isOpen (w .stage) ≡ true = not-false _ (p .0) in
       put-on closing p (h .threads) (h .agreed) (λ s inLog here. reads-closed s w (h .threads) inLog o (in-buffer (h .state) o .fits) here)
 
-module _ (header : List ℕ) (size room : ℕ) where
-  pub session : (calls : List Call) (w : Writer) (out : List ℕ) (logged : List Logged) → Written header size room w out logged → TypedCalls calls
-      → Written header size room (stateIn room w calls) (outputIn w calls out) (logged ++ acceptedIn room w calls)
+module _ (f : Form) (header : List ℕ) (size room : ℕ) where
+  pub session : (calls : List Call) (w : Writer) (out : List ℕ) (logged : List Logged) → Written f header size room w out logged → TypedCalls calls
+      → Written f header size room (stateIn room w calls) (outputIn w calls out) (logged ++ acceptedIn room w calls)
   unfolding stateIn outputIn acceptedIn outputCalled
   session [] w out logged h typed = rw append-nil h
   session (c ∷ calls) w out logged h typed =
       go (calledOn w c room) refl (λ v next more k. session calls v next more k (typed .1))
     where
       go : (x : Replying) → calledOn w c room ≡ x
-          → ((v : Writer) (next : List ℕ) (more : List Logged) → Written header size room v next more → Written header size room (stateIn room v calls) (outputIn v calls next) (more ++ acceptedIn room v calls))
-          → Written header size room (stateIn room w (c ∷ calls)) (outputIn w (c ∷ calls) out) (logged ++ acceptedIn room w (c ∷ calls))
+          → ((v : Writer) (next : List ℕ) (more : List Logged) → Written f header size room v next more → Written f header size room (stateIn room v calls) (outputIn v calls next) (more ++ acceptedIn room v calls))
+          → Written f header size room (stateIn room w (c ∷ calls)) (outputIn w (c ∷ calls) out) (logged ++ acceptedIn room w (c ∷ calls))
       go (declined n) e rest = rw (h .long, e, outputCalled, acceptedIn) (rest w out logged h)
       go (continues v) e rest =
           let (p, same) = went-passes (callTests w c room) (sym (called-sound (h .state) c) ∙ e) in
           rw (h .long, e, outputCalled, acceptedIn, ← same, ← append-assoc)
-          (rest (stateAfter w c) (put (callBytes w c) (w .place) out) (logged ++ loggedBy w c) (accepts header size room w out logged h c (typed .0) p))
+          (rest (stateAfter w c) (put (callBytes w c) (w .place) out) (logged ++ loggedBy w c) (accepts f header size room w out logged h c (typed .0) p))

@@ -11,15 +11,15 @@ use Rattle.fdr.specs.Number.{byteAt, number, bytesOf, zeros}
 use Rattle.fdr.specs.Bits.{bitfieldOf}
 use Rattle.fdr.specs.Encoded.{headerBytes}
 use Rattle.fdr.specs.Header.{passed, headerOf, openedWithin, longest}
-use Rattle.fdr.proofs.Numbers.{number-agree}
+use Rattle.fdr.specs.declared.form.Form.{Form}
+use Rattle.fdr.proofs.Numbers.{number-agree, number-bytes}
 use Rattle.fdr.proofs.BitPlaces.{flags-back}
-use Rattle.record_writer.proofs.Bytes.{number-bytes}
 use Rattle.fdr.proofs.Opening.{sizesRight, opens}
 use Rattle.demands.specs.Demand2.{fixed}
 
-module _ (frequency : ℕ) (constant nonstop : Bool) (size : ℕ) where
+module _ (f : Form) (frequency : ℕ) (constant nonstop : Bool) (size : ℕ) where
   abbrev pub heading : List ℕ
-  heading = headerBytes frequency constant nonstop size
+  heading = headerBytes f frequency constant nonstop size
 
   pub heading-long : length heading ≡ 32
   unfolding bytesOf zeros headerBytes
@@ -28,33 +28,33 @@ module _ (frequency : ℕ) (constant nonstop : Bool) (size : ℕ) where
   -- A log with that header opens, where its buffers are whole.
   module _ (s : List ℕ) (few : frequency < 2 ^ 64) (least : 64 ≤ size) (most : size ≤ 16777184) (long : 32 ≤ length s) (short : length s ≤ longest)
       (whole : (length s - 32) % size ≡ 0) (same : (i : ℕ) → i < 32 → byteAt s i ≡ byteAt heading i) where
-    part : (k at : ℕ) → at + k ≤ 32 → number k s at ≡ number k heading at
-    part k at l = number-agree k s heading at 0 32 (λ i a b. same i b) (omega arith) l
+    part : (k at : ℕ) → at + k ≤ 32 → number (f .order) k s at ≡ number (f .order) k heading at
+    part k at l = number-agree (f .order) k s heading at 0 32 (λ i a b. same i b) (omega arith) l
 
-    version-back : number 2 s 0 ≡ 1
+    version-back : number (f .order) 2 s 0 ≡ 1
     unfolding number bytesOf headerBytes
-    version-back = part 2 0 (lit≤ tt)
+    version-back = part 2 0 (lit≤ tt) ∙ number-bytes (f .order) 2 1 (lit≤ tt)
 
-    type-back : number 2 s 2 ≡ 1
+    type-back : number (f .order) 2 s 2 ≡ 1
     unfolding number bytesOf headerBytes
-    type-back = part 2 2 (lit≤ tt)
+    type-back = part 2 2 (lit≤ tt) ∙ number-bytes (f .order) 2 1 (lit≤ tt)
 
-    bitfield-back : number 4 s 4 ≡ bitfieldOf constant nonstop
+    bitfield-back : number (f .order) 4 s 4 ≡ bitfieldOf (f .order) constant nonstop
     unfolding number bytesOf headerBytes
-    bitfield-back = part 4 4 (lit≤ tt) ∙ number-bytes 4 (bitfieldOf constant nonstop) (flags-back constant nonstop .2)
+    bitfield-back = part 4 4 (lit≤ tt) ∙ number-bytes (f .order) 4 (bitfieldOf (f .order) constant nonstop) (flags-back (f .order) constant nonstop .2)
 
-    frequency-back : number 8 s 8 ≡ frequency
+    frequency-back : number (f .order) 8 s 8 ≡ frequency
     unfolding number bytesOf headerBytes
-    frequency-back = part 8 8 (lit≤ tt) ∙ number-bytes 8 frequency few
+    frequency-back = part 8 8 (lit≤ tt) ∙ number-bytes (f .order) 8 frequency few
 
-    size-back : number 8 s 16 ≡ size
+    size-back : number (f .order) 8 s 16 ≡ size
     unfolding number bytesOf headerBytes
-    size-back = part 8 16 (lit≤ tt) ∙ number-bytes 8 size (omega arith)
+    size-back = part 8 16 (lit≤ tt) ∙ number-bytes (f .order) 8 size (omega arith)
 
-    header-back : headerOf s ≡ fixed frequency constant nonstop size
+    header-back : headerOf f s ≡ fixed frequency constant nonstop size
     unfolding headerOf
     header-back =
-        let (c, n, small) = flags-back constant nonstop in
+        let (c, n, small) = flags-back (f .order) constant nonstop in
         rw (bitfield-back, frequency-back, size-back, c, n)
 
     sizes-right : sizesRight s size ≡ true
@@ -64,7 +64,7 @@ module _ (frequency : ℕ) (constant nonstop : Bool) (size : ℕ) where
         go true = rw (le-ltb size 64 least, eq-eqb ((length s - 32) % size) 0 whole)
         go false = refl
 
-    pub opens-back : openedWithin longest s ≡ passed (fixed frequency constant nonstop size)
+    pub opens-back : openedWithin f longest s ≡ passed (fixed frequency constant nonstop size)
     opens-back =
-        sym (opens longest s long short version-back type-back (sym (ap (sizesRight s) size-back ∙ sizes-right)))
+        sym (opens f longest s long short version-back type-back (sym (ap (sizesRight s) size-back ∙ sizes-right)))
         ∙ ap passed header-back

@@ -10,6 +10,7 @@ use lib.ListN.{length, take, drop, replicate, length-append, length-replicate}
 use lib.Seq.{take-append-le}
 use Rattle.fdr.specs.Trace.{Trace, item, done, refusedAt, trace}
 use Rattle.fdr.specs.Hidden.{shown, shownIn, Overwritten}
+use Rattle.fdr.specs.declared.form.Form.{Form}
 use Rattle.fdr.specs.declared.record.Record.{Record}
 use Rattle.fdr.specs.declared.record.Record.the-variants.{Function, NewBuffer, EndOfBuffer, NewCpuId, TscWrap, WallTime, CustomEvent, CallArgument}
 use Rattle.fdr.proofs.Overwriting.{overwritten}
@@ -73,31 +74,31 @@ first-numbers : (rows : List Row) (a b : List ℕ) → take cells (tableOf rows 
 unfolding tableOf
 first-numbers rows a b = first-of cells (flat rows) (drop cells a) ∙ sym (first-of cells (flat rows) (drop cells b))
 
-long-table : (s a : List ℕ) → cells ≤ length a → tableAfter s a ≡ tableOf (rowsOf (meaning s)) a
+long-table : (f : Form) (s a : List ℕ) → cells ≤ length a → tableAfter f s a ≡ tableOf (rowsOf (meaning f s)) a
 unfolding tableAfter
-long-table s a l = rw (le-ltb (length a) cells l, tableAfter)
+long-table f s a l = rw (le-ltb (length a) cells l, tableAfter)
 
 -- A log, well-formed or not, and an overwriting of its hidden bytes.
-module _ (s t : List ℕ) (o : Overwritten s t) where
-  same-by : {A : Type 0} (f : Trace → A) → ((x : Trace) → f x ≡ f (shownIn x)) → f (trace s) ≡ f (trace t)
-  same-by f law = law (trace s) ∙ ap f (overwritten s t o) ∙ sym (law (trace t))
+module _ (f : Form) (s t : List ℕ) (o : Overwritten f s t) where
+  same-by : {A : Type 0} (g : Trace → A) → ((x : Trace) → g x ≡ g (shownIn x)) → g (trace f s) ≡ g (trace f t)
+  same-by g law = law (trace f s) ∙ ap g (overwritten f s t o) ∙ sym (law (trace f t))
 
-  same-meaning : meaning s ≡ meaning t
+  same-meaning : meaning f s ≡ meaning f t
   unfolding meaning
   same-meaning = same-by (λ (x : Trace). replayed x start) (λ x. replayed-shown x start)
 
-  same-told : told (meaning s) (trace s) ≡ told (meaning t) (trace t)
-  same-told = rw same-meaning (go (meaning t))
+  same-told : told (meaning f s) (trace f s) ≡ told (meaning f t) (trace f t)
+  same-told = rw same-meaning (go (meaning f t))
     where
-      go : (m : Result) → told m (trace s) ≡ told m (trace t)
+      go : (m : Result) → told m (trace f s) ≡ told m (trace f t)
       go (refused n place) = refl
       go (accepted u) = rw (same-by buffersIn buffers-in-shown, same-by recordsIn records-in-shown)
 
-  pub same-answer : (a b : List ℕ) → ltb (length a) cells ≡ ltb (length b) cells → answer s a ≡ answer t b
+  pub same-answer : (a b : List ℕ) → ltb (length a) cells ≡ ltb (length b) cells → answer f s a ≡ answer f t b
   unfolding answer
   same-answer a b e =
       ap (λ (v : Verdict). elim (ltb (length a) cells) [ true ↦ refusal 14 0 | false ↦ v ]) same-told
-      ∙ ap (λ (x : Bool). elim x [ true ↦ refusal 14 0 | false ↦ told (meaning t) (trace t) ]) e
+      ∙ ap (λ (x : Bool). elim x [ true ↦ refusal 14 0 | false ↦ told (meaning f t) (trace f t) ]) e
 
-  pub same-table : (a b : List ℕ) → cells ≤ length a → cells ≤ length b → take cells (tableAfter s a) ≡ take cells (tableAfter t b)
-  same-table a b la lb = rw (long-table s a la, long-table t b lb, same-meaning) (first-numbers (rowsOf (meaning t)) a b)
+  pub same-table : (a b : List ℕ) → cells ≤ length a → cells ≤ length b → take cells (tableAfter f s a) ≡ take cells (tableAfter f t b)
+  same-table a b la lb = rw (long-table f s a la, long-table f t b lb, same-meaning) (first-numbers (rowsOf (meaning f t)) a b)

@@ -61,38 +61,38 @@ module _ (s : List ℕ) (p : Position) where
   over-there front l = trace-next s p ∙ rw (log-over s p front l)
 
   -- A record that stands at the position, that the grammar allows there, and that lies within the buffer.
-  reads : (e : ℕ) (x : Record) (stage : Stage) (threads : Threads) (n : ℕ) → next s p ≡ stepIn s p e → e ≤ length s → Bounded x → Here s (p .place) (recordBytes x)
+  reads : (e : ℕ) (x : Record) (stage : Stage) (threads : Threads) (n : ℕ) → next s p ≡ stepIn s p e → e ≤ length s → Bounded x → Here s (p .place) (recordBytes (p .form) x)
       → p .place + sizeOf x + eventSize x ≤ e → follows (p .stage) x ≡ onto stage → joinedBy (p .threads) x ≡ joins threads → behind x (p .place + sizeOf x) e ≡ n
-      → ReadsTo s p (record { place = n; end = e; size = p .size; stage = stage; threads = threads }) (loggedAt s (p .place) x ∷ [])
+      → ReadsTo s p (record { form = p .form; place = n; end = e; size = p .size; stage = stage; threads = threads }) (loggedAt s (p .place) x ∷ [])
   reads e x stage threads n in-it inLog bound here fits to join b =
-      let at : Placed s e (p .place) x (p .place + sizeOf x) =
-      record { is = decoded-back s (p .place) x bound here; starts = omega (arith, sized-some x); behind = refl; within = omega arith; inLog = inLog } in
+      let at : Placed (p .form) s e (p .place) x (p .place + sizeOf x) =
+      record { is = decoded-back (p .form) s (p .place) x bound here; starts = omega (arith, sized-some x); behind = refl; within = omega arith; inLog = inLog } in
       steps x _
       (in-it
-      ∙ step-found s p e x (p .place + sizeOf x) (found-at s e (p .place) x (p .place + sizeOf x) at)
+      ∙ step-found s p e x (p .place + sizeOf x) (found-at (p .form) s e (p .place) x (p .place + sizeOf x) at)
       ∙ rw (to, le-leb (p .place + sizeOf x + eventSize x) e fits, join, b, grammarTest, threadTest))
 
 -- Where the walk stands when it has passed what a writer has written.
 abbrev pub posOf : Writer → Threads → Position
-posOf w threads = record { place = w .place; end = w .end; size = w .size; stage = w .stage; threads = threads }
+posOf w threads = record { form = w .form; place = w .place; end = w .end; size = w .size; stage = w .stage; threads = threads }
 
 module _ (s : List ℕ) (w : Writer) (threads : Threads) where
-  pub reads-added : (r : Record) (given : List ℕ) → w .end ≤ length s → takes (w .stage) r ≡ true → length (eventOf r given) ≡ eventSize r → Bounded r → w .place + length (addedBytes r given) ≤ w .end → Here s (w .place) (addedBytes r given)
+  pub reads-added : (r : Record) (given : List ℕ) → w .end ≤ length s → takes (w .stage) r ≡ true → length (eventOf r given) ≡ eventSize r → Bounded r → w .place + length (addedBytes (w .form) r given) ≤ w .end → Here s (w .place) (addedBytes (w .form) r given)
       → ReadsTo s (posOf w threads) (posOf (stateAfter w (adding r given)) threads) (loggedBy w (adding r given))
   unfolding addedBytes stateAfter
   reads-added r given inLog t own bound fits here =
       let p : Position = posOf w threads in
       let k : Taken (w .stage) r = taken (w .stage) r t in
-      let long : length (addedBytes r given) ≡ sizeOf r + length (eventOf r given) = length-added r given in
-      let place : w .place + sizeOf r + eventSize r ≡ w .place + length (addedBytes r given) = omega arith in
+      let long : length (addedBytes (w .form) r given) ≡ sizeOf r + length (eventOf r given) = length-added (w .form) r given in
+      let place : w .place + sizeOf r + eventSize r ≡ w .place + length (addedBytes (w .form) r given) = omega arith in
       let event : take (eventSize r) (drop (w .place + sizeOf r) s) ≡ eventOf r given =
       here-whole s (w .place + sizeOf r) (eventOf r given) (eventSize r)
-      (here-second s (w .place) (recordBytes r) (eventOf r given) here (w .place + sizeOf r) (omega (arith, length-record r)))
+      (here-second s (w .place) (recordBytes (w .form) r) (eventOf r given) here (w .place + sizeOf r) (omega (arith, length-record (w .form) r)))
       own (omega arith) in
       subst (λ (l : List ℕ). ReadsTo s p (posOf (stateAfter w (adding r given)) threads) (record { it = r; event = l } ∷ [])) event
-      (reads s p (w .end) r (stageAfter (w .stage) r) threads (w .place + length (addedBytes r given))
+      (reads s p (w .end) r (stageAfter (w .stage) r) threads (w .place + length (addedBytes (w .form) r given))
       (in-buffer s p (open-behind (w .stage) (k .from))) inLog bound
-      (here-first s (w .place) (recordBytes r) (eventOf r given) here) (omega arith)
+      (here-first s (w .place) (recordBytes (w .form) r) (eventOf r given) here) (omega arith)
       (k .to) (taken-joined (w .stage) r threads t)
       (taken-behind (w .stage) r (w .place + sizeOf r) (w .end) t ∙ place))
 
@@ -102,7 +102,7 @@ module _ (s : List ℕ) (w : Writer) (threads : Threads) where
   reads-closed inLog o fits here =
       reads s (posOf w threads) (w .end) EndOfBuffer Between threads (w .end)
       (in-buffer s (posOf w threads) (open-behind (w .stage) o)) inLog tt
-      (here-first s (w .place) (recordBytes EndOfBuffer) (zeros (w .end - (w .place + 16))) here) (omega arith)
+      (here-first s (w .place) (recordBytes (w .form) EndOfBuffer) (zeros (w .end - (w .place + 16))) here) (omega arith)
       (open-end (w .stage) o) refl refl
 
   pub reads-opened : (seconds micros cpu tsc : ℕ) → w .place + w .size ≤ length s → 64 ≤ w .size → w .stage ≡ Between → w .thread < 2 ^ 16 → agreedWith threads (w .thread) ≡ joins (One (w .thread))
@@ -113,14 +113,14 @@ module _ (s : List ℕ) (w : Writer) (threads : Threads) where
       let t : ℕ = w .thread in
       let e : ℕ = w .place + w .size in
       let p : Position = posOf w threads in
-      let q : Position = record { place = w .place + 16; end = e; size = w .size; stage = WallTimeNext; threads = One t } in
-      let y : Position = record { place = w .place + 32; end = e; size = w .size; stage = CpuNext; threads = One t } in
-      let z : Position = record { place = w .place + 48; end = e; size = w .size; stage = Body; threads = One t } in
-      let a : List ℕ = recordBytes (NewBuffer t) in
-      let b : List ℕ = recordBytes (WallTime seconds micros) in
-      let c : List ℕ = recordBytes (NewCpuId cpu tsc) in
+      let q : Position = record { form = w .form; place = w .place + 16; end = e; size = w .size; stage = WallTimeNext; threads = One t } in
+      let y : Position = record { form = w .form; place = w .place + 32; end = e; size = w .size; stage = CpuNext; threads = One t } in
+      let z : Position = record { form = w .form; place = w .place + 48; end = e; size = w .size; stage = Body; threads = One t } in
+      let a : List ℕ = recordBytes (w .form) (NewBuffer t) in
+      let b : List ℕ = recordBytes (w .form) (WallTime seconds micros) in
+      let c : List ℕ = recordBytes (w .form) (NewCpuId cpu tsc) in
       let behind-first : Here s (w .place + 16) (b ++ c) = here-second s (w .place) a (b ++ c) here (w .place + 16) (rw length-record) in
-      let last : Here s (w .place + 32) c = here-second s (w .place + 16) b c behind-first (w .place + 32) (omega (arith, length-record (WallTime seconds micros))) in
+      let last : Here s (w .place + 32) c = here-second s (w .place + 16) b c behind-first (w .place + 32) (omega (arith, length-record (w .form) (WallTime seconds micros))) in
       let one : ReadsTo s p q (eventless (NewBuffer t) ∷ []) =
       reads s p e (NewBuffer t) WallTimeNext (One t) (w .place + 16)
       (in-front s p (ap inFront closed) (omega arith)) inLog small

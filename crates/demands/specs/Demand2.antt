@@ -1,5 +1,5 @@
 -- Demand 2's round trip: "What the writer accepts is read back as the same records" (README.md, "What is proved"; paper
--- 01, "Writer and comparison"). Assumes nothing.
+-- 01, "Writer and comparison"). CR 4: it holds for each byte order. Assumes nothing.
 use Prim.Native.Nat.{ℕ, _+_, _^_, _<_}
 use mathlib.Core.Path.{_≡_}
 use mathlib.Core.Bool.{Bool, true, cond}
@@ -9,6 +9,7 @@ use Rattle.fdr.specs.Record.{sizeOf, eventSize}
 use Rattle.fdr.specs.Header.{passed, openedWithin, longest}
 use Rattle.fdr.specs.Trace.{Trace, item, done, refusedAt, trace, wellFormed}
 use Rattle.record_writer.specs.RoundTrip.{RoundTrips}
+use Rattle.fdr.specs.declared.form.Form.{Form}
 use Rattle.fdr.specs.declared.record.Record.{Record}
 use Rattle.fdr.specs.declared.header.Header.{Header}
 use Rattle.fdr.specs.declared.grammar.Stage.the-variants.{Between}
@@ -36,18 +37,18 @@ fixed frequency constant nonstop size = record {
 }
 
 -- "a well-formed log whose records are those accepted, in order", with the header that the start fixed.
-pub record ReadsAs (header : Header) (accepted : List Logged) (log : List ℕ) : Type 0 where
-  pub formed : wellFormed log ≡ true
-  pub opened : openedWithin longest log ≡ passed header
-  pub records : loggedIn log (trace log) ≡ accepted
+pub record ReadsAs (f : Form) (header : Header) (accepted : List Logged) (log : List ℕ) : Type 0 where
+  pub formed : wellFormed f log ≡ true
+  pub opened : openedWithin f longest log ≡ passed header
+  pub records : loggedIn log (trace f log) ≡ accepted
 
 -- "From one start, where every call gets the same output and the state last returned and nothing else writes to it, after
 -- a close or right after the start the bytes so far are" such a log: for every sequence of calls, refused ones among them.
 abbrev pub WrittenLog : Type 0
-WrittenLog = (frequency : ℕ) (constant nonstop : Bool) (size thread : ℕ) (out : List ℕ) (first : Writer) (calls : List Call)
-    → frequency < 2 ^ 64 → thread < 2 ^ 16 → started size thread (length out) ≡ continues first → TypedCalls calls
+WrittenLog = (f : Form) (frequency : ℕ) (constant nonstop : Bool) (size thread : ℕ) (out : List ℕ) (first : Writer) (calls : List Call)
+    → frequency < 2 ^ 64 → thread < 2 ^ 16 → started f size thread (length out) ≡ continues first → TypedCalls calls
     → stateIn (length out) first calls .stage ≡ Between
-    → ReadsAs (fixed frequency constant nonstop size) (acceptedIn (length out) first calls) (take (stateIn (length out) first calls .place) (outputIn first calls (outputStarted frequency constant nonstop size thread out)))
+    → ReadsAs f (fixed frequency constant nonstop size) (acceptedIn (length out) first calls) (take (stateIn (length out) first calls .place) (outputIn first calls (outputStarted f frequency constant nonstop size thread out)))
 
 -- Both round trips: of a log, and of one record, "read and written again" and written and read (crate `record_writer`).
 pub record Demand2 : Type 0 where

@@ -2,9 +2,11 @@
 // in which nothing but the replay calls the walk, so that the compiler inlines it.
 ghost use mathlib.Core.Path.{_≡_};
 ghost use mathlib.Core.List.{[], _∷_};
+ghost use Rattle.fdr.specs.Form.{formOf};
 ghost use Rattle.fdr.specs.Header.{openedWithin, longest};
 ghost use Rattle.replay.specs.Replay.{answer, countsOf, tableAfter};
 ghost use Rattle.desk.specs.Interface.{replayNumber, replayPlace, headerNumber, headerFields};
+use fdr::form::Form;
 use fdr::header::Opened;
 use replay::Answer;
 
@@ -12,6 +14,7 @@ use replay::Answer;
 #[no_mangle]
 pub extern "C" fn towercloak_replay(
     log: &[u8],
+    order: u32,
     table: &mut [u64],
     rows: &mut u64,
     buffers: &mut u64,
@@ -19,12 +22,13 @@ pub extern "C" fn towercloak_replay(
     open: &mut u64,
     place: &mut u64,
 ) -> u32
-    ensures { λ r. ⌜ r ≡ replayNumber (answer (now (log .entry)) (now (table .entry))) ⌝ }
-    ensures { λ _. ⌜ now (rows .exit) ∷ now (buffers .exit) ∷ now (records .exit) ∷ now («open» .exit) ∷ [] ≡ countsOf (answer (now (log .entry)) (now (table .entry))) ⌝ }
-    ensures { λ _. ⌜ now (place .exit) ≡ replayPlace (answer (now (log .entry)) (now (table .entry))) ⌝ }
-    ensures { λ _. ⌜ now (table .exit) ≡ tableAfter (now (log .entry)) (now (table .entry)) ⌝ }
+    ensures { λ r. ⌜ r ≡ replayNumber (answer (formOf order) (now (log .entry)) (now (table .entry))) ⌝ }
+    ensures { λ _. ⌜ now (rows .exit) ∷ now (buffers .exit) ∷ now (records .exit) ∷ now («open» .exit) ∷ [] ≡ countsOf (answer (formOf order) (now (log .entry)) (now (table .entry))) ⌝ }
+    ensures { λ _. ⌜ now (place .exit) ≡ replayPlace (answer (formOf order) (now (log .entry)) (now (table .entry))) ⌝ }
+    ensures { λ _. ⌜ now (table .exit) ≡ tableAfter (formOf order) (now (log .entry)) (now (table .entry)) ⌝ }
 {
-    let answer = replay::replay(log, table);
+    let form = Form::named(order);
+    let answer = replay::replay(log, form, table);
     match answer {
         Answer::Report {
             rows: row_count,
@@ -54,15 +58,17 @@ pub extern "C" fn towercloak_replay(
 #[no_mangle]
 pub extern "C" fn towercloak_header(
     log: &[u8],
+    order: u32,
     frequency: &mut u64,
     constant_tsc: &mut u64,
     nonstop_tsc: &mut u64,
     buffer_size: &mut u64,
 ) -> u32
-    ensures { λ r. ⌜ r ≡ headerNumber (openedWithin longest (now (log .entry))) ⌝ }
-    ensures { λ _. ⌜ now (frequency .exit) ∷ now («constant_tsc» .exit) ∷ now («nonstop_tsc» .exit) ∷ now («buffer_size» .exit) ∷ [] ≡ headerFields (openedWithin longest (now (log .entry))) ⌝ }
+    ensures { λ r. ⌜ r ≡ headerNumber (openedWithin (formOf order) longest (now (log .entry))) ⌝ }
+    ensures { λ _. ⌜ now (frequency .exit) ∷ now («constant_tsc» .exit) ∷ now («nonstop_tsc» .exit) ∷ now («buffer_size» .exit) ∷ [] ≡ headerFields (openedWithin (formOf order) longest (now (log .entry))) ⌝ }
 {
-    let opened = fdr::header::open(log);
+    let form = Form::named(order);
+    let opened = fdr::header::open(log, form);
     match opened {
         Opened::Passed(header) => {
             *frequency = header.frequency;

@@ -12,47 +12,48 @@ use Rattle.fdr.specs.Decoded.{Decoded, known, unknown, functionAt, metad
 use Rattle.fdr.specs.Reading.{Reading, noRecord, sizeTest, recordAt}
 use Rattle.fdr.specs.Walk.{Stepping, over, inFront, recordTest, stepIn, next}
 use Rattle.fdr.specs.Trace.{traced, walked, traceFrom}
+use Rattle.fdr.specs.declared.form.Form.{Form}
 use Rattle.fdr.specs.declared.record.Record.{Record}
 use Rattle.fdr.specs.declared.walk.Position.{Position}
 use Rattle.fdr.proofs.Numbers.{Agree, number-agree}
 use Rattle.fdr.proofs.Tracing.{Forward, forward, same-step}
 
 -- Decoding depends only on the sixteen bytes at its place.
-module _ (s t : List ℕ) (p : ℕ) (same : Agree s t p (p + 16)) where
-  part : (k at : ℕ) → p ≤ at → at + k ≤ p + 16 → number k s at ≡ number k t at
-  part k at lo hi = number-agree k s t at p (p + 16) same lo hi
+module _ (form : Form) (s t : List ℕ) (p : ℕ) (same : Agree s t p (p + 16)) where
+  part : (k at : ℕ) → p ≤ at → at + k ≤ p + 16 → number (form .order) k s at ≡ number (form .order) k t at
+  part k at lo hi = number-agree (form .order) k s t at p (p + 16) same lo hi
 
   first-agree : byteAt s p ≡ byteAt t p
   first-agree = same p (omega arith) (omega arith)
 
-  function-agree : functionAt s p ≡ functionAt t p
+  function-agree : functionAt form s p ≡ functionAt form t p
   unfolding functionAt
   function-agree =
-      let a : number 4 s p ≡ number 4 t p = part 4 p (omega arith) (omega arith) in
-      let b : number 4 s (p + 4) ≡ number 4 t (p + 4) = part 4 (p + 4) (omega arith) (omega arith) in
+      let a : number (form .order) 4 s p ≡ number (form .order) 4 t p = part 4 p (omega arith) (omega arith) in
+      let b : number (form .order) 4 s (p + 4) ≡ number (form .order) 4 t (p + 4) = part 4 (p + 4) (omega arith) (omega arith) in
       rw (first-agree, a, b)
 
-  metadata-agree : metadata s p ≡ metadata t p
+  metadata-agree : metadata form s p ≡ metadata form t p
   metadata-agree =
-      let a : number 2 s (p + 1) ≡ number 2 t (p + 1) = part 2 (p + 1) (omega arith) (omega arith) in
-      let b : number 8 s (p + 3) ≡ number 8 t (p + 3) = part 8 (p + 3) (omega arith) (omega arith) in
-      let c : number 8 s (p + 1) ≡ number 8 t (p + 1) = part 8 (p + 1) (omega arith) (omega arith) in
-      let d : number 4 s (p + 9) ≡ number 4 t (p + 9) = part 4 (p + 9) (omega arith) (omega arith) in
-      let e : number 4 s (p + 1) ≡ number 4 t (p + 1) = part 4 (p + 1) (omega arith) (omega arith) in
-      let f : number 8 s (p + 5) ≡ number 8 t (p + 5) = part 8 (p + 5) (omega arith) (omega arith) in
+      let a : number (form .order) 2 s (p + 1) ≡ number (form .order) 2 t (p + 1) = part 2 (p + 1) (omega arith) (omega arith) in
+      let b : number (form .order) 8 s (p + 3) ≡ number (form .order) 8 t (p + 3) = part 8 (p + 3) (omega arith) (omega arith) in
+      let c : number (form .order) 8 s (p + 1) ≡ number (form .order) 8 t (p + 1) = part 8 (p + 1) (omega arith) (omega arith) in
+      let d : number (form .order) 4 s (p + 9) ≡ number (form .order) 4 t (p + 9) = part 4 (p + 9) (omega arith) (omega arith) in
+      let e : number (form .order) 4 s (p + 1) ≡ number (form .order) 4 t (p + 1) = part 4 (p + 1) (omega arith) (omega arith) in
+      let f : number (form .order) 8 s (p + 5) ≡ number (form .order) 8 t (p + 5) = part 8 (p + 5) (omega arith) (omega arith) in
       simp (a, b, c, d, e, f)
 
-  pub decoded-agree : decoded s p ≡ decoded t p
+  pub decoded-agree : decoded form s p ≡ decoded form t p
   unfolding metadataAt decoded
   decoded-agree =
-      ap (λ (b : ℕ). of b (functionAt s p) (metadata s p)) first-agree
-      ∙ ap (λ (f : Record). of (byteAt t p) f (metadata s p)) function-agree
-      ∙ ap (λ (l : List Decoded). of (byteAt t p) (functionAt t p) l) metadata-agree
+      ap (λ (b : ℕ). of b (functionAt form s p) (metadata form s p)) first-agree
+      ∙ ap (λ (f : Record). of (byteAt t p) f (metadata form s p)) function-agree
+      ∙ ap (λ (l : List Decoded). of (byteAt t p) (functionAt form t p) l) metadata-agree
     where
       of : ℕ → Record → List Decoded → Decoded
-      of b f l = elim (isFunction b) [
-        | true ↦ elim (leb (actionIn b) 3) [ true ↦ known f | false ↦ unknown 6 ]
-        | false ↦ getD l (kindIn b) (unknown 19)
+      of b f l = elim (isFunction (form .order) b) [
+        | true ↦ elim (leb (actionIn (form .order) b) 3) [ true ↦ known f | false ↦ unknown 6 ]
+        | false ↦ getD l (kindIn (form .order) b) (unknown 19)
       ]
 
 -- Two logs of one length that agree from a place on.
@@ -60,11 +61,11 @@ pub record SameFrom (s t : List ℕ) (place : ℕ) : Type 0 where
   pub long : length s ≡ length t
   pub bytes : (i : ℕ) → place ≤ i → byteAt s i ≡ byteAt t i
 
-record-agree : (s t : List ℕ) (e p : ℕ) → SameFrom s t p → recordAt s e p ≡ recordAt t e p
+record-agree : (form : Form) (s t : List ℕ) (e p : ℕ) → SameFrom s t p → recordAt form s e p ≡ recordAt form t e p
 unfolding recordAt
-record-agree s t e p same =
-    ap (λ (n : ℕ). of n (decoded s p)) (same .long)
-    ∙ ap (λ (d : Decoded). of (length t) d) (decoded-agree s t p (λ i l h. same .bytes i l))
+record-agree form s t e p same =
+    ap (λ (n : ℕ). of n (decoded form s p)) (same .long)
+    ∙ ap (λ (d : Decoded). of (length t) d) (decoded-agree form s t p (λ i l h. same .bytes i l))
   where
     of : ℕ → Decoded → Reading
     of n d = elim (leb e n) [
@@ -87,7 +88,7 @@ next-agree s t p same =
     ]
 
     step : (e : ℕ) → stepIn s p e ≡ stepIn t p e
-    step e = ap (λ (x : Reading). recordTest x p e) (record-agree s t e (p .place) same)
+    step e = ap (λ (x : Reading). recordTest x p e) (record-agree (p .form) s t e (p .place) same)
 
 walked-agree : (f : ℕ) (s t : List ℕ) (p : Position) → SameFrom s t (p .place) → walked f s p ≡ walked f t p
 unfolding walked

@@ -10,13 +10,14 @@ use Rattle.fdr.specs.Header.{Opening, passed, failed, openedWithin, long
 use Rattle.fdr.specs.Walk.{Stepping, over, onward, halted, next, startOf}
 use Rattle.fdr.specs.Trace.{Trace, refusedAt, traced, walked, traceFrom, traceWithin, trace, ending, finished, wellFormed}
 use Rattle.fdr.specs.Hidden.{hiddenIn, hidden, visibleIn}
+use Rattle.fdr.specs.declared.form.Form.{Form}
 use Rattle.fdr.specs.declared.walk.Position.{Position}
 use Rattle.refusal.proofs.Cases.{by-lt}
 use Rattle.fdr.proofs.Records.{visible-size}
 use Rattle.fdr.proofs.Tracing.{over-end, forward}
 use Rattle.fdr.proofs.Hiding.{before-range, in-range, behind-range, shown-of, by-later, hidden-later}
 
--- What is visible lies behind the place where a trace starts.
+-- What is visible lies behind the place where a trace form starts.
 visible-later : (f : ℕ) (s : List ℕ) (p : Position) (i : ℕ) → i < p .place → visibleIn (walked f s p) i ≡ false
 unfolding visibleIn
 visible-later f s p i l =
@@ -47,10 +48,10 @@ parted-from (suc f) s p i e lo hi = go (next s p) refl e (λ q fin l. parted-fro
 
 -- THE LAW OF HIDDEN BYTES: in a well-formed log the bytes behind the header are hidden where they are no record's visible
 -- ones.
-pub covered : (s : List ℕ) (i : ℕ) → wellFormed s ≡ true → 32 ≤ i → i < length s → hidden s i ≡ not (visibleIn (trace s) i)
+pub covered : (form : Form) (s : List ℕ) (i : ℕ) → wellFormed form s ≡ true → 32 ≤ i → i < length s → hidden form s i ≡ not (visibleIn (trace form s) i)
 unfolding traceWithin traceFrom ending hidden
-covered s i well lo hi = rw (behind-range 24 32 i lo) (go (openedWithin longest s) well)
+covered form s i well lo hi = rw (behind-range 24 32 i lo) (go (openedWithin form longest s) well)
   where
-    go : (x : Opening) → finished (elim x [ passed h ↦ traceFrom s (startOf h) | failed n ↦ refusedAt n 0 ]) ≡ true → Parted (elim x [ passed h ↦ traceFrom s (startOf h) | failed n ↦ refusedAt n 0 ]) i
-    go (passed h) fin = parted-from (suc (length s)) s (startOf h) i fin lo hi
+    go : (x : Opening) → finished (elim x [ passed h ↦ traceFrom s (startOf form h) | failed n ↦ refusedAt n 0 ]) ≡ true → Parted (elim x [ passed h ↦ traceFrom s (startOf form h) | failed n ↦ refusedAt n 0 ]) i
+    go (passed h) fin = parted-from (suc (length s)) s (startOf form h) i fin lo hi
     go (failed n) fin = absurd (true≢false (sym fin))

@@ -12,6 +12,7 @@ use Rattle.fdr.specs.Header.{Opening, passed, failed, openedWithin, long
 use Rattle.fdr.specs.Walk.{Stepping, over, onward, halted, next, startOf}
 use Rattle.fdr.specs.Trace.{Trace, item, done, refusedAt, traced, walked, traceFrom, traceWithin, trace}
 use Rattle.fdr.specs.Hidden.{within, hiddenIn}
+use Rattle.fdr.specs.declared.form.Form.{Form}
 use Rattle.fdr.specs.declared.record.Record.{Record}
 use Rattle.fdr.specs.declared.walk.Position.{Position}
 use Rattle.fdr.proofs.Tracing.{Forward, forward}
@@ -56,7 +57,7 @@ by-later P i ends stops more (suc f) s p l = go (next s p) refl (λ r q w. by-la
     go (halted n at) z h = stops n at
     go (onward r q) z h = more (p .place) r (q .place) (walked f s q) l (h r q (forward s p r q z))
 
--- What is hidden lies behind the place where a trace starts.
+-- What is hidden lies behind the place where a trace form starts.
 pub hidden-later : (f : ℕ) (s : List ℕ) (p : Position) (i : ℕ) → i < p .place → hiddenIn (walked f s p) i ≡ false
 unfolding hiddenIn
 hidden-later f s p i l =
@@ -64,10 +65,10 @@ hidden-later f s p i l =
     (λ place r after rest h none. shown-of place r after rest i (omega arith) none)
     f s p l
 
-pub header-first : (s : List ℕ) (i : ℕ) → i < 32 → hiddenIn (trace s) i ≡ false
+pub header-first : (form : Form) (s : List ℕ) (i : ℕ) → i < 32 → hiddenIn (trace form s) i ≡ false
 unfolding traceWithin traceFrom hiddenIn
-header-first s i l = go (openedWithin longest s)
+header-first form s i l = go (openedWithin form longest s)
   where
-    go : (x : Opening) → hiddenIn (elim x [ passed h ↦ traceFrom s (startOf h) | failed n ↦ refusedAt n 0 ]) i ≡ false
-    go (passed h) = hidden-later (suc (length s)) s (startOf h) i l
+    go : (x : Opening) → hiddenIn (elim x [ passed h ↦ traceFrom s (startOf form h) | failed n ↦ refusedAt n 0 ]) i ≡ false
+    go (passed h) = hidden-later (suc (length s)) s (startOf form h) i l
     go (failed n) = refl

@@ -16,6 +16,7 @@ use Rattle.fdr.specs.Grammar.{follows}
 use Rattle.fdr.specs.Walk.{Stepping, over, onward, halted, inFront, grammarTest, recordTest, stepIn, next, startOf}
 use Rattle.fdr.specs.Trace.{Trace, item, done, refusedAt, traced, walked, traceFrom, traceWithin, trace, ending, finished, wellFormed}
 use Rattle.fdr.specs.Hidden.{within, hiddenIn, hidden, shown, shownIn, Overwritten}
+use Rattle.fdr.specs.declared.form.Form.{Form}
 use Rattle.fdr.specs.declared.record.Record.{Record}
 use Rattle.fdr.specs.declared.record.Record.the-variants.{Function, NewBuffer, EndOfBuffer, NewCpuId, TscWrap, WallTime, CustomEvent, CallArgument}
 use Rattle.fdr.specs.declared.grammar.Stage.{Stage}
@@ -58,7 +59,7 @@ module _ (p : Position) (e n : ℕ) where
   unfolding shown
   argument-tested v = go (p .stage)
     where
-      fits : (b : Bool) → shownStep (elim b [ true ↦ onward (CallArgument v) (record { place = n + 0; end = e; size = p .size; stage = Arguments; threads = p .threads }) | false ↦ halted 5 (p .place) ]) ≡ shownStep (elim b [ true ↦ onward (CallArgument 0) (record { place = n + 0; end = e; size = p .size; stage = Arguments; threads = p .threads }) | false ↦ halted 5 (p .place) ])
+      fits : (b : Bool) → shownStep (elim b [ true ↦ onward (CallArgument v) (record { form = p .form; place = n + 0; end = e; size = p .size; stage = Arguments; threads = p .threads }) | false ↦ halted 5 (p .place) ]) ≡ shownStep (elim b [ true ↦ onward (CallArgument 0) (record { form = p .form; place = n + 0; end = e; size = p .size; stage = Arguments; threads = p .threads }) | false ↦ halted 5 (p .place) ])
       fits true = refl
       fits false = refl
 
@@ -82,25 +83,25 @@ module _ (p : Position) (e n : ℕ) where
 
 -- A step that finds a record depends only on the visible bytes of it, but for an argument's value.
 module _ (s t : List ℕ) (p : Position) (r : Record) (q : Position) (long : length s ≡ length t) (same : Agree s t (p .place) (p .place + visible r)) where
-  alike : (e n : ℕ) → Placed s e (p .place) r n → Like r (decoded t (p .place)) → tested p e n r ≡ shownStep (stepIn t p e)
+  alike : (e n : ℕ) → Placed (p .form) s e (p .place) r n → Like r (decoded (p .form) t (p .place)) → tested p e n r ≡ shownStep (stepIn t p e)
   alike e n at like =
       let shape : shapeOf r ≡ shapeOf (like .other) = sym (shown-shape r) ∙ ap shapeOf (like .same) ∙ shown-shape (like .other) in
       let size : sizeOf r ≡ sizeOf (like .other) = ap (λ (x : Shape). x .size) shape in
-      let there : recordAt t e (p .place) ≡ found (like .other) n = found-at t e (p .place) (like .other) n (record { is = like .is; starts = at .starts; behind = omega (arith, at .behind); within = at .within; inLog = omega (arith, at .inLog) }) in
+      let there : recordAt (p .form) t e (p .place) ≡ found (like .other) n = found-at (p .form) t e (p .place) (like .other) n (record { is = like .is; starts = at .starts; behind = omega (arith, at .behind); within = at .within; inLog = omega (arith, at .inLog) }) in
       shown-tested p e n r ∙ ap (tested p e n) (like .same) ∙ sym (shown-tested p e n (like .other)) ∙ ap shownStep (sym (step-found t p e (like .other) n there))
 
   same-in : (e : ℕ) → stepIn s p e ≡ onward r q → shownStep (stepIn s p e) ≡ shownStep (stepIn t p e)
   unfolding stepIn
-  same-in e z = go (recordAt s e (p .place)) refl z
+  same-in e z = go (recordAt (p .form) s e (p .place)) refl z
     where
-      go : (x : Reading) → recordAt s e (p .place) ≡ x → recordTest x p e ≡ onward r q → shownStep (recordTest x p e) ≡ shownStep (stepIn t p e)
+      go : (x : Reading) → recordAt (p .form) s e (p .place) ≡ x → recordTest x p e ≡ onward r q → shownStep (recordTest x p e) ≡ shownStep (stepIn t p e)
       go (noRecord m l) d w = clash (cc)
       go (found x n) d w =
-          let at : Placed s e (p .place) x n = placed s e (p .place) x n d in
-          let is : decoded s (p .place) ≡ known x = at .is in
-          let here : decoded s (p .place) ≡ known r = subst (Says s p) z (step-says s p e) .placed .is in
+          let at : Placed (p .form) s e (p .place) x n = placed (p .form) s e (p .place) x n d in
+          let is : decoded (p .form) s (p .place) ≡ known x = at .is in
+          let here : decoded (p .form) s (p .place) ≡ known r = subst (Says s p) z (step-says s p e) .placed .is in
           let one : r ≡ x = cc in
-          ap (tested p e n) (sym one) ∙ alike e n (subst (λ (y : Record). Placed s e (p .place) y n) (sym one) at) (decoded-visible s t (p .place) r here same)
+          ap (tested p e n) (sym one) ∙ alike e n (subst (λ (y : Record). Placed (p .form) s e (p .place) y n) (sym one) at) (decoded-visible (p .form) s t (p .place) r here same)
 
   same-next : next s p ≡ onward r q → shownStep (next s p) ≡ shownStep (next t p)
   unfolding next
@@ -157,32 +158,32 @@ module _ (s t : List ℕ) (long : length s ≡ length t) where
   trace-shown p same = walked-shown (suc (length s)) p same ∙ ap (λ (n : ℕ). shownIn (walked (suc n) t p)) long
 
 -- The header's tests look at its first 24 bytes and at the log's length.
-opened-agree : (limit : ℕ) (s t : List ℕ) → length s ≡ length t → Agree s t 0 24 → openedWithin limit s ≡ openedWithin limit t
+opened-agree : (form : Form) (limit : ℕ) (s t : List ℕ) → length s ≡ length t → Agree s t 0 24 → openedWithin form limit s ≡ openedWithin form limit t
 unfolding headerOf headerTests openedWithin
-opened-agree limit s t long same =
-    let a : number 2 s 0 ≡ number 2 t 0 = part 2 0 (omega arith) in
-    let b : number 2 s 2 ≡ number 2 t 2 = part 2 2 (omega arith) in
-    let c : number 4 s 4 ≡ number 4 t 4 = part 4 4 (omega arith) in
-    let d : number 8 s 8 ≡ number 8 t 8 = part 8 8 (omega arith) in
-    let e : number 8 s 16 ≡ number 8 t 16 = part 8 16 (omega arith) in
+opened-agree form limit s t long same =
+    let a : number (form .order) 2 s 0 ≡ number (form .order) 2 t 0 = part 2 0 (omega arith) in
+    let b : number (form .order) 2 s 2 ≡ number (form .order) 2 t 2 = part 2 2 (omega arith) in
+    let c : number (form .order) 4 s 4 ≡ number (form .order) 4 t 4 = part 4 4 (omega arith) in
+    let d : number (form .order) 8 s 8 ≡ number (form .order) 8 t 8 = part 8 8 (omega arith) in
+    let e : number (form .order) 8 s 16 ≡ number (form .order) 8 t 16 = part 8 16 (omega arith) in
     rw (long, a, b, c, d, e)
   where
-    part : (k at : ℕ) → at + k ≤ 24 → number k s at ≡ number k t at
-    part k at fits = number-agree k s t at 0 24 same (omega arith) fits
+    part : (k at : ℕ) → at + k ≤ 24 → number (form .order) k s at ≡ number (form .order) k t at
+    part k at fits = number-agree (form .order) k s t at 0 24 same (omega arith) fits
 
 -- THE LAW OF OVERWRITING: the trace of the new log is the old one's, but for the values of arguments.
-pub overwritten : (s t : List ℕ) → Overwritten s t → shownIn (trace s) ≡ shownIn (trace t)
+pub overwritten : (form : Form) (s t : List ℕ) → Overwritten form s t → shownIn (trace form s) ≡ shownIn (trace form t)
 unfolding traceWithin hidden
-overwritten s t o =
-    go (openedWithin longest s) refl
-    ∙ ap (λ (x : Opening). shownIn (elim x [ passed h ↦ traceFrom t (startOf h) | failed n ↦ refusedAt n 0 ]))
-    (opened-agree longest s t (o .long) (λ i a b. o .kept i (rw (before-range 24 32 i b) (header-first s i (omega arith)))))
+overwritten form s t o =
+    go (openedWithin form longest s) refl
+    ∙ ap (λ (x : Opening). shownIn (elim x [ passed h ↦ traceFrom t (startOf form h) | failed n ↦ refusedAt n 0 ]))
+    (opened-agree form longest s t (o .long) (λ i a b. o .kept i (rw (before-range 24 32 i b) (header-first form s i (omega arith)))))
   where
-    go : (x : Opening) → openedWithin longest s ≡ x → shownIn (elim x [ passed h ↦ traceFrom s (startOf h) | failed n ↦ refusedAt n 0 ]) ≡ shownIn (elim x [ passed h ↦ traceFrom t (startOf h) | failed n ↦ refusedAt n 0 ])
+    go : (x : Opening) → openedWithin form longest s ≡ x → shownIn (elim x [ passed h ↦ traceFrom s (startOf form h) | failed n ↦ refusedAt n 0 ]) ≡ shownIn (elim x [ passed h ↦ traceFrom t (startOf form h) | failed n ↦ refusedAt n 0 ])
     go (failed n) z = refl
     go (passed h) z =
-        trace-shown s t (o .long) (startOf h)
-        (λ i l none. o .kept i (rw (behind-range 24 32 i l) (ap (λ (x : Trace). hiddenIn x i) (trace-passed longest s h z) ∙ none)))
+        trace-shown s t (o .long) (startOf form h)
+        (λ i l none. o .kept i (rw (behind-range 24 32 i l) (ap (λ (x : Trace). hiddenIn x i) (trace-passed form longest s h z) ∙ none)))
 
 -- What is well-formed and what is hidden is told by the trace without what is hidden.
 finished-shown : (t : Trace) → finished t ≡ finished (shownIn t)
@@ -199,12 +200,12 @@ hidden-shown (item place r after rest) i =
 hidden-shown done i = refl
 hidden-shown (refusedAt n place) i = refl
 
-module _ (s t : List ℕ) (o : Overwritten s t) where
-  pub same-form : wellFormed s ≡ wellFormed t
-  same-form = finished-shown (trace s) ∙ ap finished (overwritten s t o) ∙ sym (finished-shown (trace t))
+module _ (form : Form) (s t : List ℕ) (o : Overwritten form s t) where
+  pub same-form : wellFormed form s ≡ wellFormed form t
+  same-form = finished-shown (trace form s) ∙ ap finished (overwritten form s t o) ∙ sym (finished-shown (trace form t))
 
-  pub same-hidden : (i : ℕ) → hidden s i ≡ hidden t i
+  pub same-hidden : (i : ℕ) → hidden form s i ≡ hidden form t i
   unfolding hidden
   same-hidden i =
       ap (λ (b : Bool). within 24 32 i || b)
-      (hidden-shown (trace s) i ∙ ap (λ (x : Trace). hiddenIn x i) (overwritten s t o) ∙ sym (hidden-shown (trace t) i))
+      (hidden-shown (trace form s) i ∙ ap (λ (x : Trace). hiddenIn x i) (overwritten form s t o) ∙ sym (hidden-shown (trace form t) i))

@@ -7,6 +7,7 @@ use lib.Dec.{leb, ltb}
 use lib.ListN.{length}
 use Rattle.fdr.specs.Number.{byteAt}
 use Rattle.fdr.specs.Record.{visible}
+use Rattle.fdr.specs.declared.form.Form.{Form}
 use Rattle.fdr.specs.declared.record.Record.{Record}
 use Rattle.fdr.specs.declared.record.Record.the-variants.{Function, NewBuffer, EndOfBuffer, NewCpuId, TscWrap, WallTime, CustomEvent, CallArgument}
 use Rattle.fdr.specs.Trace.{Trace, item, done, refusedAt, trace}
@@ -23,8 +24,8 @@ hiddenIn done i = false
 hiddenIn (refusedAt n place) i = false
 
 -- "header bytes 24 to 31", and those of the records
-unfoldable pub hidden : List ℕ → ℕ → Bool
-hidden s i = within 24 32 i || hiddenIn (trace s) i
+unfoldable pub hidden : Form → List ℕ → ℕ → Bool
+hidden f s i = within 24 32 i || hiddenIn (trace f s) i
 
 -- Of an item its record's visible bytes. In a well-formed log the bytes behind the header are hidden where they are none
 -- of these (`covered`).
@@ -52,6 +53,6 @@ shownIn (refusedAt n place) = refusedAt n place
 
 -- An overwriting of a log's hidden bytes: "The new log has the old one's length, and its byte at every place that
 -- isn't hidden."
-pub record Overwritten (s t : List ℕ) : Type 0 where
+pub record Overwritten (f : Form) (s t : List ℕ) : Type 0 where
   pub long : length s ≡ length t
-  pub kept : (i : ℕ) → hidden s i ≡ false → byteAt s i ≡ byteAt t i
+  pub kept : (i : ℕ) → hidden f s i ≡ false → byteAt s i ≡ byteAt t i

@@ -1,3 +1,4 @@
+pub mod Form
 pub mod Number
 pub mod Bits
 pub mod Record

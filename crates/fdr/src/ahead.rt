@@ -4,8 +4,10 @@ ghost use Prim.Native.Nat.{_+_, _^_, _<_};
 ghost use Rattle.fdr.specs.Walk.{next};
 ghost use Rattle.fdr.specs.Private.{behindCall, callingOf, callIn};
 use crate::bits::First;
+use crate::bits::id_in;
+use crate::bits::pair_at;
 use crate::bits::told_by;
-use crate::decode::function_at;
+use crate::form::Order;
 use crate::grammar::Stage;
 use crate::grammar::is_open;
 use crate::record::Record;
@@ -27,9 +29,11 @@ fn behind_call(at: Position, action: u8) -> Position
     ensures { λ r. ⌜ r ≡ behindCall at action ⌝ }
 {
     let place = at.place + Record::FUNCTION_SIZE;
+    let form = at.form;
     let threads = at.threads;
     if action == Record::ENTRY_ARGS {
         return Position {
+            form,
             place,
             end: at.end,
             size: at.size,
@@ -38,6 +42,7 @@ fn behind_call(at: Position, action: u8) -> Position
         };
     }
     Position {
+        form,
         place,
         end: at.end,
         size: at.size,
@@ -64,18 +69,17 @@ pub fn call_ahead(log: &[u8], at: Position) -> Ahead
     if end - place < Record::FUNCTION_SIZE {
         return Ahead::Other;
     }
-    let told = told_by(log[place]);
-    let First::Action(_) = told else {
-        return Ahead::Other;
-    };
-    let record = function_at(log, place);
-    let Record::Function { action, id, delta } = record else {
+    let form = at.form;
+    let order = form.order;
+    let pair = pair_at(log, place, order);
+    let told = told_by((pair.first % 256) as u8, Order::Little);
+    let First::Action(action) = told else {
         return Ahead::Other;
     };
     Ahead::Call {
         action,
-        id,
-        delta,
+        id: id_in(pair.first),
+        delta: pair.delta,
         next: behind_call(at, action),
     }
 }

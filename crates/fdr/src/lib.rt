@@ -3,6 +3,7 @@
 pub mod ahead;
 mod bits;
 mod decode;
+pub mod form;
 pub mod grammar;
 pub mod header;
 mod number;

@@ -4,6 +4,7 @@ ghost use Prim.Native.Nat.{ℕ, _≤_};
 ghost use Rattle.fdr.specs.Reading.{noRecord, readingOf};
 ghost use Rattle.fdr.specs.Walk.{halted, grammarTest, stepIn, next, steppingOf, startOf};
 ghost use Rattle.fdr.specs.Grammar.{follows};
+use crate::form::Form;
 use crate::grammar::Follow;
 use crate::grammar::Joined;
 use crate::grammar::Stage;
@@ -16,9 +17,10 @@ use crate::reader::record_at;
 use crate::record::Record;
 use refusal::Refusal;
 
-// Where the walk stands: a place of the log, the end of the buffer that it lies in (of no meaning in
+// Where the walk stands: the form of the log, a place of it, the end of the buffer that it lies in (of no meaning in
 // front of a buffer), the size of each buffer, and what the records so far allow.
 pub struct Position {
+    pub form: Form,
     pub place: usize,
     pub end: usize,
     pub size: usize,
@@ -35,10 +37,11 @@ pub enum Step {
 }
 
 // The position in front of the first buffer.
-pub fn start(header: Header) -> Position
-    ensures { λ r. ⌜ r ≡ startOf header ⌝ }
+pub fn start(form: Form, header: Header) -> Position
+    ensures { λ r. ⌜ r ≡ startOf form header ⌝ }
 {
     Position {
+        form,
         place: Record::HEADER_SIZE,
         end: Record::HEADER_SIZE,
         size: header.buffer_size,
@@ -78,6 +81,7 @@ fn admit(at: Position, end: usize, record: Record, behind: usize) -> Step
     if end - behind < event {
         return refused(Refusal::PastEnd, place);
     }
+    let form = at.form;
     let at_threads = at.threads;
     let joined = join(at_threads, record);
     let Joined::Agreed(threads) = joined else {
@@ -90,6 +94,7 @@ fn admit(at: Position, end: usize, record: Record, behind: usize) -> Step
     Step::Found {
         record,
         next: Position {
+            form,
             place: place_after,
             end,
             size: at.size,
@@ -103,7 +108,8 @@ fn admit(at: Position, end: usize, record: Record, behind: usize) -> Step
 fn step_in(log: &[u8], at: Position, end: usize) -> Step
     ensures { λ r. ⌜ steppingOf r ≡ stepIn (now (log .entry)) at end ⌝ }
 {
-    let read = record_at(log, end, at.place);
+    let form = at.form;
+    let read = record_at(log, end, at.place, form);
     let Read::Found { record, next } = read else {
         return unread(read);
     };

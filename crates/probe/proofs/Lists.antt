@@ -1,7 +1,7 @@
 -- Laws of the answers as lists. Assumes nothing.
 use Prim.Native.Nat.{ℕ, zero, suc, _-_, _%_, _^_, _≤_}
 use mathlib.Core.Path.{_≡_, refl, sym, ap, _∙_}
-use mathlib.Core.List.{List, [], _∷_}
+use mathlib.Core.List.{List, [], _∷_, _++_}
 use native.Mathlib.Omega.{arith}
 use lib.ListN.{length, getD, List·getD-eq-default}
 use Rattle.fdr.specs.Header.{Opening, passed, failed}
@@ -12,7 +12,7 @@ use Rattle.fdr.specs.declared.record.Record.{Record}
 use Rattle.fdr.specs.declared.record.Record.the-variants.{Function, NewBuffer, EndOfBuffer, NewCpuId, TscWrap, WallTime, CustomEvent, CallArgument}
 use Rattle.fdr.specs.Trace.{Ending, allPass, failsBy}
 use Rattle.log_writer.specs.Start.{Replying, continues, declined}
-use Rattle.probe.specs.Numbers.{scrubbingNumbers, outcomeNumbers, writingNumbers, recordOf, recordNumbers, openingNumbers, readingNumbers, steppingNumbers}
+use Rattle.probe.specs.Numbers.{scrubbingNumbers, outcomeNumbers, writingNumbers, recordOf, recordNumbers, openingNumbers, readingNumbers, orderNumber, steppingNumbers}
 
 -- The first four of a list.
 abbrev pub four : List ℕ → List ℕ
@@ -34,6 +34,10 @@ four-of n r e = ap four e ∙ four-all r
 record-long : (r : Record) → length (recordNumbers r) ≡ 4
 record-long r = sym (ap length (four-all r))
 
+-- With one number more.
+more-long : (r : Record) (n : ℕ) → length (recordNumbers r ++ (n ∷ [])) ≡ 5
+more-long r n = sym (ap (λ (l : List ℕ). length (l ++ (n ∷ []))) (four-all r))
+
 pub opening-long : (x : Opening) → length (openingNumbers x) ≡ 5
 opening-long (passed h) = refl
 opening-long (failed n) = refl
@@ -42,9 +46,9 @@ pub reading-long : (x : Reading) → length (readingNumbers x) ≡ 6
 reading-long (found r next) = omega (arith, record-long r)
 reading-long (noRecord n place) = refl
 
-pub stepping-long : (x : Stepping) → length (steppingNumbers x) ≡ 10
+pub stepping-long : (x : Stepping) → length (steppingNumbers x) ≡ 11
 stepping-long over = refl
-stepping-long (onward r q) = omega (arith, record-long r)
+stepping-long (onward r q) = omega (arith, more-long r (orderNumber (q .form .order)))
 stepping-long (halted n place) = refl
 
 pub writing-long : (x : Writing) → length (writingNumbers x) ≡ 2
@@ -68,7 +72,7 @@ pub scrubbing-long : (x : Ending) → length (scrubbingNumbers x) ≡ 2
 scrubbing-long allPass = refl
 scrubbing-long (failsBy n place) = refl
 
-pub outcome-long : (x : Replying) → length (outcomeNumbers x) ≡ 6
+pub outcome-long : (x : Replying) → length (outcomeNumbers x) ≡ 7
 outcome-long (continues w) = refl
 outcome-long (declined n) = refl
 

@@ -1,9 +1,10 @@
 -- The answers of the reader, the writers, the walk and the scrubber as lists of numbers. Assumes nothing.
 use Prim.Native.Nat.{ℕ, _%_, _^_}
 use mathlib.Core.Bool.{true, false}
-use mathlib.Core.List.{List, [], _∷_}
+use mathlib.Core.List.{List, [], _∷_, _++_}
 use lib.Dec.{eqb, ltb}
 use lib.ListN.{length, getD}
+use Rattle.fdr.specs.Form.{formOf}
 use Rattle.fdr.specs.Header.{Opening, passed, failed}
 use Rattle.fdr.specs.Reading.{Reading, found, noRecord}
 use Rattle.record_writer.specs.Writing.{Writing, wrote, denied}
@@ -11,6 +12,8 @@ use Rattle.fdr.specs.Walk.{Stepping, over, onward, halted}
 use Rattle.fdr.specs.Trace.{Ending, allPass, failsBy}
 use Rattle.log_writer.specs.Start.{Replying, continues, declined}
 use Rattle.log_writer.specs.declared.Writer.{Writer}
+use Rattle.fdr.specs.declared.form.Order.{Order}
+use Rattle.fdr.specs.declared.form.Order.the-variants.{Little, Big}
 use Rattle.fdr.specs.declared.record.Record.{Record}
 use Rattle.fdr.specs.declared.record.Record.the-variants.{Function, NewBuffer, EndOfBuffer, NewCpuId, TscWrap, WallTime, CustomEvent, CallArgument}
 use Rattle.fdr.specs.declared.grammar.Stage.{Stage}
@@ -43,6 +46,10 @@ readingNumbers (noRecord n place) = n ∷ place ∷ 0 ∷ 0 ∷ 0 ∷ 0 ∷ []
 abbrev pub eventNumbers : List ℕ → List ℕ
 eventNumbers part = length part ∷ part
 
+abbrev pub orderNumber : Order → ℕ
+orderNumber Little = 0
+orderNumber Big = 1
+
 abbrev pub stageNumber : Stage → ℕ
 stageNumber Between = 0
 stageNumber WallTimeNext = 1
@@ -56,9 +63,9 @@ threadNumber (One thread) = thread
 
 -- 1000 where the log is over.
 abbrev pub steppingNumbers : Stepping → List ℕ
-steppingNumbers over = 1000 ∷ 0 ∷ 0 ∷ 0 ∷ 0 ∷ 0 ∷ 0 ∷ 0 ∷ 0 ∷ 0 ∷ []
-steppingNumbers (onward r q) = 0 ∷ q .place ∷ q .end ∷ q .size ∷ stageNumber (q .stage) ∷ threadNumber (q .threads) ∷ recordNumbers r
-steppingNumbers (halted n place) = n ∷ place ∷ 0 ∷ 0 ∷ 0 ∷ 0 ∷ 0 ∷ 0 ∷ 0 ∷ 0 ∷ []
+steppingNumbers over = 1000 ∷ 0 ∷ 0 ∷ 0 ∷ 0 ∷ 0 ∷ 0 ∷ 0 ∷ 0 ∷ 0 ∷ 0 ∷ []
+steppingNumbers (onward r q) = 0 ∷ q .place ∷ q .end ∷ q .size ∷ stageNumber (q .stage) ∷ threadNumber (q .threads) ∷ (recordNumbers r ++ (orderNumber (q .form .order) ∷ []))
+steppingNumbers (halted n place) = n ∷ place ∷ 0 ∷ 0 ∷ 0 ∷ 0 ∷ 0 ∷ 0 ∷ 0 ∷ 0 ∷ 0 ∷ []
 
 -- A position from numbers: any stage above 4 counts as 4, any thread above 65,535 as none seen.
 unfoldable pub stageOf : ℕ → Stage
@@ -79,9 +86,9 @@ stageOf n = elim (eqb n 0) [
 unfoldable pub threadsOf : ℕ → Threads
 threadsOf n = elim (ltb n 65536) [ true ↦ One n | false ↦ Unseen ]
 
-abbrev pub positionOf : ℕ → ℕ → ℕ → ℕ → ℕ → Position
-positionOf place end size stage thread =
-    record { place = place; end = end; size = size; stage = stageOf stage; threads = threadsOf thread }
+abbrev pub positionOf : ℕ → ℕ → ℕ → ℕ → ℕ → ℕ → Position
+positionOf order place end size stage thread =
+    record { form = formOf order; place = place; end = end; size = size; stage = stageOf stage; threads = threadsOf thread }
 
 -- A metadata record from its kind and its fields, each cut to its width; from any other kind a function record.
 unfoldable pub recordOf : ℕ → ℕ → ℕ → ℕ → Record
@@ -109,11 +116,11 @@ scrubbingNumbers allPass = 0 ∷ 0 ∷ []
 scrubbingNumbers (failsBy n place) = n ∷ place ∷ []
 
 -- A writer's state from numbers, as a position's; a thread is cut to its width.
-abbrev pub writerOf : ℕ → ℕ → ℕ → ℕ → ℕ → Writer
-writerOf size thread place end stage =
-    record { size = size; thread = thread % 2 ^ 16; place = place; end = end; stage = stageOf stage }
+abbrev pub writerOf : ℕ → ℕ → ℕ → ℕ → ℕ → ℕ → Writer
+writerOf order size thread place end stage =
+    record { form = formOf order; size = size; thread = thread % 2 ^ 16; place = place; end = end; stage = stageOf stage }
 
 -- 0 and the writer's next state, or the refusal's number.
 abbrev pub outcomeNumbers : Replying → List ℕ
-outcomeNumbers (continues w) = 0 ∷ w .size ∷ w .thread ∷ w .place ∷ w .end ∷ stageNumber (w .stage) ∷ []
-outcomeNumbers (declined n) = n ∷ 0 ∷ 0 ∷ 0 ∷ 0 ∷ 0 ∷ []
+outcomeNumbers (continues w) = 0 ∷ w .size ∷ w .thread ∷ w .place ∷ w .end ∷ stageNumber (w .stage) ∷ orderNumber (w .form .order) ∷ []
+outcomeNumbers (declined n) = n ∷ 0 ∷ 0 ∷ 0 ∷ 0 ∷ 0 ∷ 0 ∷ []

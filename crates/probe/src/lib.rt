@@ -6,6 +6,7 @@ mod list;
 
 ghost use mathlib.Core.Path.{_≡_};
 ghost use lib.ListN.{length, getD};
+ghost use Rattle.fdr.specs.Form.{formOf};
 ghost use Rattle.fdr.specs.Header.{openedWithin, longest};
 ghost use Rattle.fdr.specs.Reading.{reading, eventAt};
 ghost use Rattle.fdr.specs.Walk.{next};
@@ -17,6 +18,7 @@ ghost use Rattle.log_writer.specs.Call.{opening, adding, closing, calledOn, out
 ghost use mathlib.Core.Bool.{not};
 ghost use lib.Dec.{eqb};
 ghost use Prim.Native.Nat.{_%_, _^_};
+use fdr::form::Form;
 use list::answered;
 use list::opened_numbers;
 use list::position_of;
@@ -29,10 +31,11 @@ use list::written_numbers;
 use log_writer::Writer;
 
 #[no_mangle]
-pub extern "C" fn probe_header(log: &[u8], which: u64) -> u64
-    ensures { λ r. ⌜ r ≡ getD (openingNumbers (openedWithin longest (now (log .entry)))) which 0 ⌝ }
+pub extern "C" fn probe_header(log: &[u8], order: u32, which: u64) -> u64
+    ensures { λ r. ⌜ r ≡ getD (openingNumbers (openedWithin (formOf order) longest (now (log .entry)))) which 0 ⌝ }
 {
-    let numbers = opened_numbers(fdr::header::open(log));
+    let form = Form::named(order);
+    let numbers = opened_numbers(fdr::header::open(log, form));
     if which < 5 {
         numbers[which as usize]
     } else {
@@ -41,10 +44,11 @@ pub extern "C" fn probe_header(log: &[u8], which: u64) -> u64
 }
 
 #[no_mangle]
-pub extern "C" fn probe_read(log: &[u8], end: u64, place: u64, which: u64) -> u64
-    ensures { λ r. ⌜ r ≡ getD (readingNumbers (reading (now (log .entry)) end place)) which 0 ⌝ }
+pub extern "C" fn probe_read(log: &[u8], order: u32, end: u64, place: u64, which: u64) -> u64
+    ensures { λ r. ⌜ r ≡ getD (readingNumbers (reading (formOf order) (now (log .entry)) end place)) which 0 ⌝ }
 {
-    let numbers = read_numbers(fdr::reader::read_at(log, end as usize, place as usize));
+    let form = Form::named(order);
+    let numbers = read_numbers(fdr::reader::read_at(log, end as usize, place as usize, form));
     if which < 6 {
         numbers[which as usize]
     } else {
@@ -53,10 +57,11 @@ pub extern "C" fn probe_read(log: &[u8], end: u64, place: u64, which: u64) -> u6
 }
 
 #[no_mangle]
-pub extern "C" fn probe_event(log: &[u8], end: u64, place: u64, which: u64) -> u64
-    ensures { λ r. ⌜ r ≡ getD (eventNumbers (eventAt (now (log .entry)) end place)) which 0 ⌝ }
+pub extern "C" fn probe_event(log: &[u8], order: u32, end: u64, place: u64, which: u64) -> u64
+    ensures { λ r. ⌜ r ≡ getD (eventNumbers (eventAt (formOf order) (now (log .entry)) end place)) which 0 ⌝ }
 {
-    let part = fdr::reader::event_at(log, end as usize, place as usize);
+    let form = Form::named(order);
+    let part = fdr::reader::event_at(log, end as usize, place as usize, form);
     if which == 0 {
         return part.len() as u64;
     }
@@ -67,6 +72,7 @@ pub extern "C" fn probe_event(log: &[u8], end: u64, place: u64, which: u64) -> u
 #[no_mangle]
 pub extern "C" fn probe_next(
     log: &[u8],
+    order: u32,
     place: u64,
     end: u64,
     size: u64,
@@ -74,11 +80,11 @@ pub extern "C" fn probe_next(
     thread: u64,
     which: u64,
 ) -> u64
-    ensures { λ r. ⌜ r ≡ getD (steppingNumbers (next (now (log .entry)) (positionOf place end size stage thread))) which 0 ⌝ }
+    ensures { λ r. ⌜ r ≡ getD (steppingNumbers (next (now (log .entry)) (positionOf order place end size stage thread))) which 0 ⌝ }
 {
-    let at = position_of(place, end, size, stage, thread);
+    let at = position_of(order, place, end, size, stage, thread);
     let numbers = step_numbers(fdr::walk::next(log, at));
-    if which < 10 {
+    if which < 11 {
         numbers[which as usize]
     } else {
         0
@@ -87,6 +93,7 @@ pub extern "C" fn probe_next(
 
 #[no_mangle]
 pub extern "C" fn probe_write(
+    order: u32,
     kind: u64,
     a: u64,
     b: u64,
@@ -95,11 +102,12 @@ pub extern "C" fn probe_write(
     out: &mut [u8],
     which: u64,
 ) -> u64
-    ensures { λ r. ⌜ r ≡ getD (writingNumbers (written (recordOf kind a b c) (now (event .entry)) (length (now (out .entry))))) which 0 ⌝ }
-    ensures { λ r. ⌜ now (out .exit) ≡ outputAfter (recordOf kind a b c) (now (event .entry)) (now (out .entry)) ⌝ }
+    ensures { λ r. ⌜ r ≡ getD (writingNumbers (written (formOf order) (recordOf kind a b c) (now (event .entry)) (length (now (out .entry))))) which 0 ⌝ }
+    ensures { λ r. ⌜ now (out .exit) ≡ outputAfter (formOf order) (recordOf kind a b c) (now (event .entry)) (now (out .entry)) ⌝ }
 {
+    let form = Form::named(order);
     let record = record_of(kind, a, b, c);
-    let numbers = written_numbers(record_writer::write_record(record, event, out));
+    let numbers = written_numbers(record_writer::write_record(record, form, event, out));
     if which < 2 {
         numbers[which as usize]
     } else {
@@ -108,11 +116,12 @@ pub extern "C" fn probe_write(
 }
 
 #[no_mangle]
-pub extern "C" fn probe_scrub(log: &mut [u8], which: u64) -> u64
-    ensures { λ r. ⌜ r ≡ getD (scrubbingNumbers (scrubbing (now (log .entry)))) which 0 ⌝ }
-    ensures { λ _. ⌜ now (log .exit) ≡ bytesAfter (now (log .entry)) ⌝ }
+pub extern "C" fn probe_scrub(log: &mut [u8], order: u32, which: u64) -> u64
+    ensures { λ r. ⌜ r ≡ getD (scrubbingNumbers (scrubbing (formOf order) (now (log .entry)))) which 0 ⌝ }
+    ensures { λ _. ⌜ now (log .exit) ≡ bytesAfter (formOf order) (now (log .entry)) ⌝ }
 {
-    let numbers = scrub_numbers(scrub::scrub(log));
+    let form = Form::named(order);
+    let numbers = scrub_numbers(scrub::scrub(log, form));
     if which < 2 {
         numbers[which as usize]
     } else {
@@ -122,6 +131,7 @@ pub extern "C" fn probe_scrub(log: &mut [u8], which: u64) -> u64
 
 #[no_mangle]
 pub extern "C" fn probe_start(
+    order: u32,
     frequency: u64,
     constant_tsc: u64,
     nonstop_tsc: u64,
@@ -130,20 +140,30 @@ pub extern "C" fn probe_start(
     out: &mut [u8],
     which: u64,
 ) -> u64
-    ensures { λ r. ⌜ r ≡ getD (outcomeNumbers (started size (thread % 2 ^ 16) (length (now (out .entry))))) which 0 ⌝ }
-    ensures { λ _. ⌜ now (out .exit) ≡ outputStarted frequency (not (eqb «constant_tsc» 0)) (not (eqb «nonstop_tsc» 0)) size (thread % 2 ^ 16) (now (out .entry)) ⌝ }
+    ensures { λ r. ⌜ r ≡ getD (outcomeNumbers (started (formOf order) size (thread % 2 ^ 16) (length (now (out .entry))))) which 0 ⌝ }
+    ensures { λ _. ⌜ now (out .exit) ≡ outputStarted (formOf order) frequency (not (eqb «constant_tsc» 0)) (not (eqb «nonstop_tsc» 0)) size (thread % 2 ^ 16) (now (out .entry)) ⌝ }
 {
+    let form = Form::named(order);
     let constant = constant_tsc != 0;
     let nonstop = nonstop_tsc != 0;
     let named = (thread % 65536) as u16;
     answered(
-        Writer::start(frequency, constant, nonstop, size as usize, named, out),
+        Writer::start(
+            form,
+            frequency,
+            constant,
+            nonstop,
+            size as usize,
+            named,
+            out,
+        ),
         which,
     )
 }
 
 #[no_mangle]
 pub extern "C" fn probe_open(
+    order: u32,
     size: u64,
     thread: u64,
     place: u64,
@@ -156,10 +176,10 @@ pub extern "C" fn probe_open(
     out: &mut [u8],
     which: u64,
 ) -> u64
-    ensures { λ r. ⌜ r ≡ getD (outcomeNumbers (calledOn (writerOf size thread place end stage) (opening seconds (micros % 2 ^ 32) (cpu % 2 ^ 16) tsc) (length (now (out .entry))))) which 0 ⌝ }
-    ensures { λ _. ⌜ now (out .exit) ≡ outputCalled (writerOf size thread place end stage) (opening seconds (micros % 2 ^ 32) (cpu % 2 ^ 16) tsc) (now (out .entry)) ⌝ }
+    ensures { λ r. ⌜ r ≡ getD (outcomeNumbers (calledOn (writerOf order size thread place end stage) (opening seconds (micros % 2 ^ 32) (cpu % 2 ^ 16) tsc) (length (now (out .entry))))) which 0 ⌝ }
+    ensures { λ _. ⌜ now (out .exit) ≡ outputCalled (writerOf order size thread place end stage) (opening seconds (micros % 2 ^ 32) (cpu % 2 ^ 16) tsc) (now (out .entry)) ⌝ }
 {
-    let writer = writer_of(size, thread, place, end, stage);
+    let writer = writer_of(order, size, thread, place, end, stage);
     let parts = (micros % 4294967296) as u32;
     let core = (cpu % 65536) as u16;
     answered(writer.open(seconds, parts, core, tsc, out), which)
@@ -167,6 +187,7 @@ pub extern "C" fn probe_open(
 
 #[no_mangle]
 pub extern "C" fn probe_add(
+    order: u32,
     size: u64,
     thread: u64,
     place: u64,
@@ -180,16 +201,17 @@ pub extern "C" fn probe_add(
     out: &mut [u8],
     which: u64,
 ) -> u64
-    ensures { λ r. ⌜ r ≡ getD (outcomeNumbers (calledOn (writerOf size thread place end stage) (adding (recordOf kind a b c) (now (event .entry))) (length (now (out .entry))))) which 0 ⌝ }
-    ensures { λ _. ⌜ now (out .exit) ≡ outputCalled (writerOf size thread place end stage) (adding (recordOf kind a b c) (now (event .entry))) (now (out .entry)) ⌝ }
+    ensures { λ r. ⌜ r ≡ getD (outcomeNumbers (calledOn (writerOf order size thread place end stage) (adding (recordOf kind a b c) (now (event .entry))) (length (now (out .entry))))) which 0 ⌝ }
+    ensures { λ _. ⌜ now (out .exit) ≡ outputCalled (writerOf order size thread place end stage) (adding (recordOf kind a b c) (now (event .entry))) (now (out .entry)) ⌝ }
 {
-    let writer = writer_of(size, thread, place, end, stage);
+    let writer = writer_of(order, size, thread, place, end, stage);
     let record = record_of(kind, a, b, c);
     answered(writer.add(record, event, out), which)
 }
 
 #[no_mangle]
 pub extern "C" fn probe_close(
+    order: u32,
     size: u64,
     thread: u64,
     place: u64,
@@ -198,9 +220,9 @@ pub extern "C" fn probe_close(
     out: &mut [u8],
     which: u64,
 ) -> u64
-    ensures { λ r. ⌜ r ≡ getD (outcomeNumbers (calledOn (writerOf size thread place end stage) closing (length (now (out .entry))))) which 0 ⌝ }
-    ensures { λ _. ⌜ now (out .exit) ≡ outputCalled (writerOf size thread place end stage) closing (now (out .entry)) ⌝ }
+    ensures { λ r. ⌜ r ≡ getD (outcomeNumbers (calledOn (writerOf order size thread place end stage) closing (length (now (out .entry))))) which 0 ⌝ }
+    ensures { λ _. ⌜ now (out .exit) ≡ outputCalled (writerOf order size thread place end stage) closing (now (out .entry)) ⌝ }
 {
-    let writer = writer_of(size, thread, place, end, stage);
+    let writer = writer_of(order, size, thread, place, end, stage);
     answered(writer.close(out), which)
 }

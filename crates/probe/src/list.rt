@@ -7,7 +7,9 @@ ghost use Rattle.record_writer.specs.Writing.{writingOf};
 ghost use Rattle.scrub.specs.Scrub.{scrubbingOf};
 ghost use Rattle.log_writer.specs.Start.{replyingOf};
 ghost use lib.ListN.{getD};
-ghost use Rattle.probe.specs.Numbers.{scrubbingNumbers, writerOf, outcomeNumbers, writingNumbers, recordOf, recordNumbers, openingNumbers, readingNumbers, steppingNumbers, stageNumber, threadNumber, stageOf, threadsOf, positionOf};
+ghost use Rattle.probe.specs.Numbers.{scrubbingNumbers, writerOf, outcomeNumbers, writingNumbers, recordOf, recordNumbers, openingNumbers, readingNumbers, steppingNumbers, orderNumber, stageNumber, threadNumber, stageOf, threadsOf, positionOf};
+use fdr::form::Form;
+use fdr::form::Order;
 use fdr::grammar::Stage;
 use fdr::grammar::Threads;
 use fdr::header::Opened;
@@ -60,6 +62,15 @@ pub fn read_numbers(read: Read) -> [u64; 6]
     }
 }
 
+fn order_number(order: Order) -> u64
+    ensures { λ r. ⌜ r ≡ orderNumber order ⌝ }
+{
+    match order {
+        Order::Little => 0,
+        Order::Big => 1,
+    }
+}
+
 fn stage_number(stage: Stage) -> u64
     ensures { λ r. ⌜ r ≡ stageNumber stage ⌝ }
 {
@@ -81,17 +92,20 @@ fn thread_number(threads: Threads) -> u64
     }
 }
 
-pub fn step_numbers(step: Step) -> [u64; 10]
+pub fn step_numbers(step: Step) -> [u64; 11]
     ensures { λ r. ⌜ r ≡ steppingNumbers (steppingOf step) ⌝ }
 {
     match step {
-        Step::Over => [1000, 0, 0, 0, 0, 0, 0, 0, 0, 0],
+        Step::Over => [1000, 0, 0, 0, 0, 0, 0, 0, 0, 0, 0],
         Step::Found { record, next } => {
             let n = record_numbers(record);
             let at_stage = next.stage;
             let stage = stage_number(at_stage);
             let at_threads = next.threads;
             let thread = thread_number(at_threads);
+            let form = next.form;
+            let at_order = form.order;
+            let order = order_number(at_order);
             [
                 0,
                 next.place as u64,
@@ -103,10 +117,11 @@ pub fn step_numbers(step: Step) -> [u64; 10]
                 n[1],
                 n[2],
                 n[3],
+                order,
             ]
         }
         Step::Refused { refusal, place } => {
-            [refusal.number(), place as u64, 0, 0, 0, 0, 0, 0, 0, 0]
+            [refusal.number(), place as u64, 0, 0, 0, 0, 0, 0, 0, 0, 0]
         }
     }
 }
@@ -139,10 +154,11 @@ fn threads_of(number: u64) -> Threads
     }
 }
 
-pub fn position_of(place: u64, end: u64, size: u64, stage: u64, thread: u64) -> Position
-    ensures { λ r. ⌜ r ≡ positionOf place end size stage thread ⌝ }
+pub fn position_of(order: u32, place: u64, end: u64, size: u64, stage: u64, thread: u64) -> Position
+    ensures { λ r. ⌜ r ≡ positionOf order place end size stage thread ⌝ }
 {
     Position {
+        form: Form::named(order),
         place: place as usize,
         end: end as usize,
         size: size as usize,
@@ -188,10 +204,11 @@ pub fn scrub_numbers(answer: scrub::Scrubbed) -> [u64; 2]
     }
 }
 
-pub fn writer_of(size: u64, thread: u64, place: u64, end: u64, stage: u64) -> Writer
-    ensures { λ r. ⌜ r ≡ writerOf size thread place end stage ⌝ }
+pub fn writer_of(order: u32, size: u64, thread: u64, place: u64, end: u64, stage: u64) -> Writer
+    ensures { λ r. ⌜ r ≡ writerOf order size thread place end stage ⌝ }
 {
     Writer {
+        form: Form::named(order),
         size: size as usize,
         thread: (thread % 65536) as u16,
         place: place as usize,
@@ -200,13 +217,16 @@ pub fn writer_of(size: u64, thread: u64, place: u64, end: u64, stage: u64) -> Wr
     }
 }
 
-fn outcome_numbers(answer: log_writer::Reply) -> [u64; 6]
+fn outcome_numbers(answer: log_writer::Reply) -> [u64; 7]
     ensures { λ r. ⌜ r ≡ outcomeNumbers (replyingOf answer) ⌝ }
 {
     match answer {
         log_writer::Reply::Continue(w) => {
             let at_stage = w.stage;
             let stage = stage_number(at_stage);
+            let form = w.form;
+            let at_order = form.order;
+            let order = order_number(at_order);
             [
                 0,
                 w.size as u64,
@@ -214,9 +234,10 @@ fn outcome_numbers(answer: log_writer::Reply) -> [u64; 6]
                 w.place as u64,
                 w.end as u64,
                 stage,
+                order,
             ]
         }
-        log_writer::Reply::Refused(refusal) => [refusal.number(), 0, 0, 0, 0, 0],
+        log_writer::Reply::Refused(refusal) => [refusal.number(), 0, 0, 0, 0, 0, 0],
     }
 }
 
@@ -225,7 +246,7 @@ pub fn answered(answer: log_writer::Reply, which: u64) -> u64
     ensures { λ r. ⌜ r ≡ getD (outcomeNumbers (replyingOf answer)) which 0 ⌝ }
 {
     let numbers = outcome_numbers(answer);
-    if which < 6 {
+    if which < 7 {
         numbers[which as usize]
     } else {
         0

@@ -2,8 +2,10 @@
 // nothing else calls the walk, so that the compiler inlines it as in a program that only replays.
 ghost use mathlib.Core.Path.{_≡_};
 ghost use lib.ListN.{getD};
+ghost use Rattle.fdr.specs.Form.{formOf};
 ghost use Rattle.replay.specs.Replay.{verdictOf, answer, tableAfter};
 ghost use Rattle.replay_probe.specs.Numbers.{verdictNumbers};
+use fdr::form::Form;
 use replay::Answer;
 
 fn numbers_of(answer: Answer) -> [u64; 5]
@@ -22,11 +24,12 @@ fn numbers_of(answer: Answer) -> [u64; 5]
 
 // The `which`-th number of the answer, and 0 past its last.
 #[no_mangle]
-pub extern "C" fn probe_replay(log: &[u8], table: &mut [u64], which: u64) -> u64
-    ensures { λ r. ⌜ r ≡ getD (verdictNumbers (answer (now (log .entry)) (now (table .entry)))) which 0 ⌝ }
-    ensures { λ r. ⌜ now (table .exit) ≡ tableAfter (now (log .entry)) (now (table .entry)) ⌝ }
+pub extern "C" fn probe_replay(log: &[u8], order: u32, table: &mut [u64], which: u64) -> u64
+    ensures { λ r. ⌜ r ≡ getD (verdictNumbers (answer (formOf order) (now (log .entry)) (now (table .entry)))) which 0 ⌝ }
+    ensures { λ r. ⌜ now (table .exit) ≡ tableAfter (formOf order) (now (log .entry)) (now (table .entry)) ⌝ }
 {
-    let numbers = numbers_of(replay::replay(log, table));
+    let form = Form::named(order);
+    let numbers = numbers_of(replay::replay(log, form, table));
     if which < 5 {
         numbers[which as usize]
     } else {

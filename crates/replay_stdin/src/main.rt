@@ -3,6 +3,8 @@ ghost use Prim.Native.Nat.{_<_};
 ghost use lib.ListN.{length};
 ghost use Rattle.replay.specs.Row.{mostRows};
 ghost use Rattle.replay_stdin.specs.Private.{Within};
+use fdr::form::Form;
+use fdr::form::Order;
 use libc::STDIN_FILENO;
 use libc::STDOUT_FILENO;
 use replay::Answer;
@@ -81,7 +83,10 @@ fn print_rows(table: &[u64; CELLS], rows: u64) {
 
 fn print_replay(log: &[u8]) {
     let mut table = [0u64; CELLS];
-    let answer = replay::replay(log, &mut table);
+    let form = Form {
+        order: Order::Little,
+    };
+    let answer = replay::replay(log, form, &mut table);
     match answer {
         Answer::Report {
             rows,

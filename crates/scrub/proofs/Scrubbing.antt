@@ -13,6 +13,7 @@ use Rattle.fdr.specs.Walk.{Stepping, over, onward, halted, steppingOf, next, st
 use Rattle.fdr.specs.Trace.{traced, traceFrom, trace, Ending, allPass, failsBy, ending, finished}
 use Rattle.fdr.specs.Private.{endOf}
 use Rattle.fdr.specs.Hidden.{within, hiddenIn, hidden}
+use Rattle.fdr.specs.declared.form.Form.{Form}
 use Rattle.fdr.specs.declared.record.Record.{Record}
 use Rattle.fdr.specs.declared.header.Header.{Header}
 use Rattle.fdr.specs.declared.walk.Position.{Position}
@@ -73,21 +74,21 @@ module _ (s : List ℕ) (p : Position) where
         range-wiped s t (p .place + n) (q .place) q (omega arith) was ∙ rw (trace-at (onward r q) z, seen)
 
 -- A refused log is left as it was.
-pub left-alone : (s : List ℕ) (n place : ℕ) → failsBy n place ≡ scrubbing s → s ≡ bytesAfter s
+pub left-alone : (f : Form) (s : List ℕ) (n place : ℕ) → failsBy n place ≡ scrubbing f s → s ≡ bytesAfter f s
 unfolding bytesAfter
-left-alone s n place e = rw (← e, bytesAfter)
+left-alone f s n place e = rw (← e, bytesAfter)
 
-pub header-refused : (s : List ℕ) (n : ℕ) → openedWithin longest s ≡ failed n → failsBy n 0 ≡ scrubbing s
+pub header-refused : (f : Form) (s : List ℕ) (n : ℕ) → openedWithin f longest s ≡ failed n → failsBy n 0 ≡ scrubbing f s
 unfolding ending
-header-refused s n z = rw (trace-failed longest s n z)
+header-refused f s n z = rw (trace-failed f longest s n z)
 
 -- A log whose header passes: first the header's hidden bytes, then those of the records.
-module _ (s : List ℕ) (h : Header) (z : openedWithin longest s ≡ passed h) where
-  pub records-tell : ending (traceFrom s (startOf h)) ≡ scrubbing s
-  records-tell = rw (trace-passed longest s h z)
+module _ (f : Form) (s : List ℕ) (h : Header) (z : openedWithin f longest s ≡ passed h) where
+  pub records-tell : ending (traceFrom s (startOf f h)) ≡ scrubbing f s
+  records-tell = rw (trace-passed f longest s h z)
 
-  pub both-wiped : (t : List ℕ) → t ≡ zeroed (within 24 32) s → allPass ≡ scrubbing s → zeroed (hiddenIn (traceFrom t (startOf h))) t ≡ bytesAfter s
+  pub both-wiped : (t : List ℕ) → t ≡ zeroed (within 24 32) s → allPass ≡ scrubbing f s → zeroed (hiddenIn (traceFrom t (startOf f h))) t ≡ bytesAfter f s
   unfolding bytesAfter hidden
   both-wiped t e well =
-      range-wiped s t 24 32 (startOf h) (omega arith) e
-      ∙ rw (← well, bytesAfter, ← trace-passed longest s h z)
+      range-wiped s t 24 32 (startOf f h) (omega arith) e
+      ∙ rw (← well, bytesAfter, ← trace-passed f longest s h z)

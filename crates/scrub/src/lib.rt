@@ -5,6 +5,7 @@ ghost use Rattle.fdr.specs.Private.{endOf};
 ghost use Rattle.fdr.specs.Trace.{traceFrom, ending};
 ghost use Rattle.fdr.specs.Walk.{steppingOf};
 ghost use Rattle.scrub.specs.Scrub.{scrubbingOf, scrubbing, bytesAfter};
+use fdr::form::Form;
 use fdr::header::Header;
 use fdr::header::Opened;
 use fdr::record::Record;
@@ -49,12 +50,12 @@ fn check(log: &[u8], first: Position) -> Scrubbed
 }
 
 // Behind the header's tests. All records are tested before a byte is changed.
-fn scrub_records(log: &mut [u8], header: Header) -> Scrubbed
-    requires { ⌜ openedWithin longest (now log) ≡ passed header ⌝ }
-    ensures { λ r. ⌜ scrubbingOf r ≡ scrubbing (now (log .entry)) ⌝ }
-    ensures { λ r. ⌜ now (log .exit) ≡ bytesAfter (now (log .entry)) ⌝ }
+fn scrub_records(log: &mut [u8], form: Form, header: Header) -> Scrubbed
+    requires { ⌜ openedWithin form longest (now log) ≡ passed header ⌝ }
+    ensures { λ r. ⌜ scrubbingOf r ≡ scrubbing form (now (log .entry)) ⌝ }
+    ensures { λ r. ⌜ now (log .exit) ≡ bytesAfter form (now (log .entry)) ⌝ }
 {
-    let first = fdr::walk::start(header);
+    let first = fdr::walk::start(form, header);
     let checked = check(log, first);
     if let Scrubbed::Clean = checked {
         zero(log, Record::HEADER_VISIBLE, Record::HEADER_SIZE);
@@ -64,13 +65,13 @@ fn scrub_records(log: &mut [u8], header: Header) -> Scrubbed
 }
 
 // Scrubs a log in place.
-pub fn scrub(log: &mut [u8]) -> Scrubbed
-    ensures { λ r. ⌜ scrubbingOf r ≡ scrubbing (now (log .entry)) ⌝ }
-    ensures { λ r. ⌜ now (log .exit) ≡ bytesAfter (now (log .entry)) ⌝ }
+pub fn scrub(log: &mut [u8], form: Form) -> Scrubbed
+    ensures { λ r. ⌜ scrubbingOf r ≡ scrubbing form (now (log .entry)) ⌝ }
+    ensures { λ r. ⌜ now (log .exit) ≡ bytesAfter form (now (log .entry)) ⌝ }
 {
-    let opened = fdr::header::open(log);
+    let opened = fdr::header::open(log, form);
     match opened {
         Opened::Refused(refusal) => Scrubbed::Refused { refusal, place: 0 },
-        Opened::Passed(header) => scrub_records(log, header),
+        Opened::Passed(header) => scrub_records(log, form, header),
     }
 }

@@ -1,10 +1,12 @@
 // The C interface (include/towercloak.h): what a C program calls, on numbers and bytes.
 ghost use mathlib.Core.Path.{_≡_};
 ghost use Rattle.compare.specs.Compare.{compared};
+ghost use Rattle.fdr.specs.Form.{formOf};
 ghost use Rattle.scrub.specs.Scrub.{scrubbing, bytesAfter};
 ghost use Rattle.towercloak.specs.Interface.{orderNumber, sideOf, scrubNumber, scrubPlace};
 use compare::Compared;
 use compare::Side;
+use fdr::form::Form;
 use scrub::Scrubbed;
 
 // 0 lower, 1 equal, 2 higher, or the refusal's number, 17 or 18.
@@ -48,12 +50,13 @@ pub extern "C" fn towercloak_compare(
 
 // 0 and zero in every hidden byte, or the refusal's number, its place, and the bytes as they were.
 #[no_mangle]
-pub extern "C" fn towercloak_scrub(log: &mut [u8], place: &mut u64) -> u32
-    ensures { λ r. ⌜ r ≡ scrubNumber (scrubbing (now (log .entry))) ⌝ }
-    ensures { λ _. ⌜ now (place .exit) ≡ scrubPlace (scrubbing (now (log .entry))) ⌝ }
-    ensures { λ _. ⌜ now (log .exit) ≡ bytesAfter (now (log .entry)) ⌝ }
+pub extern "C" fn towercloak_scrub(log: &mut [u8], order: u32, place: &mut u64) -> u32
+    ensures { λ r. ⌜ r ≡ scrubNumber (scrubbing (formOf order) (now (log .entry))) ⌝ }
+    ensures { λ _. ⌜ now (place .exit) ≡ scrubPlace (scrubbing (formOf order) (now (log .entry))) ⌝ }
+    ensures { λ _. ⌜ now (log .exit) ≡ bytesAfter (formOf order) (now (log .entry)) ⌝ }
 {
-    let answer = scrub::scrub(log);
+    let form = Form::named(order);
+    let answer = scrub::scrub(log, form);
     let Scrubbed::Refused { refusal, place: at } = answer else {
         *place = 0;
         return 0;

@@ -33,7 +33,7 @@ returns : tie.Need-returns
 returns c =
     let f = first c .run .ensures in
     let g = second c .run2 .ensures in
-    (f, (g, λ well o. ran-alike _ _ _ _ _ _ _ _ _ _ _ _ f g well o))
+    (f, (g, λ well o. ran-alike _ _ _ _ _ _ _ _ _ _ _ _ _ f g well o))
 
 pub run-both-spec : {M : Type 1} → statement M
 run-both-spec =

@@ -24,8 +24,8 @@ same-length c = search needs
 returns : tie.Need-returns
 returns c =
     let z = sym (c .before .before .before .«open» .ensures) ∙ ap openingOf (c .before .opened .given .1) in
-    let tells = header-refused _ _ z in
-    (tells, left-alone _ _ _ tells)
+    let tells = header-refused _ _ _ z in
+    (tells, left-alone _ _ _ _ tells)
 
 same-length-2 : tie.Need-same-length-2
 same-length-2 c = search needs

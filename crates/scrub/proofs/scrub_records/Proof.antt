@@ -2,7 +2,10 @@
 use Rattle.scrub.proofs.Scrubbing.{left-alone, records-tell, both-wiped}
 use Rattle.fdr.proofs.Opening.{passed-long}
 use Rattle.fdr.specs.Header.{longest}
-use Rattle.scrub.specs.Scrub.{scrubbingOf, scrubbing}
+use Rattle.fdr.specs.Trace.{traceFrom, ending}
+use Rattle.fdr.specs.Hidden.{hiddenIn}
+use Rattle.fdr.specs.declared.walk.Position.{Position}
+use Rattle.scrub.specs.Scrub.{scrubbingOf, scrubbing, zeroed as wiped}
 use native.Mathlib.Omega.{arith}
 use Prim.Native.Nat.{ℕ}
 use mathlib.Core.List.{List}
@@ -11,12 +14,12 @@ use borrow.Author.Needs.{needs}
 use Rattle.scrub.proofs.scrub_records.Statement.{statement}
 use Rattle.scrub.proofs.scrub_records.Tie as tie
 
--- The first pass tells what the scrubber does.
-tells : (c : tie.After-check) → scrubbingOf (c .check .result) ≡ scrubbing (c .before .before .before .before .args .log .now)
-tells c = c .check .ensures ∙ rw (c .before .before .start .ensures) (records-tell _ _ (c .before .before .before .before .pre))
-
 abbrev start : tie.After-check → tie.Start
 start c = c .before .before .before .before
+
+-- The first pass tells what the scrubber does.
+tells : (c : tie.After-check) → scrubbingOf (c .check .result) ≡ scrubbing (start c .args .form) (start c .args .log .now)
+tells c = c .check .ensures ∙ ap (λ (p : Position). ending (traceFrom (start c .args .log .now) p)) (c .before .before .start .ensures) ∙ records-tell _ _ _ (start c .pre)
 
 -- Behind the second pass: the header's bytes, and the first pass.
 abbrev zeroed : tie.After-slice-known3 → tie.After-zero
@@ -35,7 +38,7 @@ enum-told : tie.Need-enum-told
 enum-told c = search needs
 
 zero-requires : tie.Need-zero-requires
-zero-requires c κs = (omega arith, passed-long longest _ _ (start (c .before .before .before) .pre))
+zero-requires c κs = (omega arith, passed-long _ longest _ _ (start (c .before .before .before) .pre))
 
 wipe-requires : tie.Need-wipe-requires
 wipe-requires c κs = search needs
@@ -52,7 +55,7 @@ returns c =
     let t : List ℕ = zeroed c .zero .last .0 in
     let all = tells (checked c) in
     let well = sym (ap scrubbingOf (zeroed c .before .before .«enum-told» .given .1)) ∙ all in
-    (all, c .before .before .wipe .ensures ∙ rw (checked c .before .before .start .ensures) (both-wiped (begun .args .log .now) _ (begun .pre) t (zeroed c .zero .ensures) well))
+    (all, c .before .before .wipe .ensures ∙ ap (λ (p : Position). wiped (hiddenIn (traceFrom t p)) t) (checked c .before .before .start .ensures) ∙ (both-wiped (begun .args .form) (begun .args .log .now) _ (begun .pre) t (zeroed c .zero .ensures) well))
 
 same-length-2 : tie.Need-same-length-2
 same-length-2 c = search needs
@@ -60,7 +63,7 @@ same-length-2 c = search needs
 returns-2 : tie.Need-returns-2
 returns-2 c =
     let all = tells (c .before .before) in
-    (all, left-alone _ _ _ (sym (ap scrubbingOf (c .«enum-told2» .given .1)) ∙ all))
+    (all, left-alone _ _ _ _ (sym (ap scrubbingOf (c .«enum-told2» .given .1)) ∙ all))
 
 pub scrub-records-spec : {M : Type 1} → statement M
 scrub-records-spec =

@@ -9,10 +9,10 @@ add-place : tie.Need-add-place
 add-place c = search needs
 
 returns : tie.Need-returns
-returns c = rw (eq-eqb (c .before .before .args .action) 3 (c .if1 .taken), behindCall, stageBehind)
+returns c = rw (eq-eqb (c .before .before .before .args .action) 3 (c .if1 .taken), behindCall, stageBehind)
 
 returns-2 : tie.Need-returns-2
-returns-2 c = rw (ne-eqb (c .before .before .args .action) 3 (c .if1 .left), behindCall, stageBehind)
+returns-2 c = rw (ne-eqb (c .before .before .before .args .action) 3 (c .if1 .left), behindCall, stageBehind)
 
 pub behind-call-spec : {M : Type 1} → statement M
 behind-call-spec = tie.close (tie.spec add-place returns returns-2)

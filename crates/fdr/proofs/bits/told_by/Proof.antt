@@ -12,19 +12,19 @@ action-in-requires : tie.Need-action-in-requires
 action-in-requires c κs = search needs
 
 returns : tie.Need-returns
-returns c = told-action _ _ (sym (c .before .before .before .is-function .ensures) ∙ c .before .before .if1 .taken) (c .before .action-in .ensures) (c .if2 .taken)
+returns c = told-action _ _ _ (sym (c .before .before .before .is-function .ensures) ∙ c .before .before .if1 .taken) (c .before .action-in .ensures) (c .if2 .taken)
 
 returns-2 : tie.Need-returns-2
-returns-2 c = strange-action _ _ (sym (c .before .before .before .is-function .ensures) ∙ c .before .before .if1 .taken) (c .before .action-in .ensures) (c .if2 .left)
+returns-2 c = strange-action _ _ _ (sym (c .before .before .before .is-function .ensures) ∙ c .before .before .if1 .taken) (c .before .action-in .ensures) (c .if2 .left)
 
 kind-in-requires : tie.Need-kind-in-requires
 kind-in-requires c κs = search needs
 
 returns-3 : tie.Need-returns-3
-returns-3 c = told-kind _ _ (sym (c .before .before .before .is-function .ensures) ∙ c .before .before .if1 .left) (c .before .kind-in .ensures) (c .if3 .taken)
+returns-3 c = told-kind _ _ _ (sym (c .before .before .before .is-function .ensures) ∙ c .before .before .if1 .left) (c .before .kind-in .ensures) (c .if3 .taken)
 
 returns-4 : tie.Need-returns-4
-returns-4 c = strange-kind _ _ (sym (c .before .before .before .is-function .ensures) ∙ c .before .before .if1 .left) (c .before .kind-in .ensures) (c .if3 .left)
+returns-4 c = strange-kind _ _ _ (sym (c .before .before .before .is-function .ensures) ∙ c .before .before .if1 .left) (c .before .kind-in .ensures) (c .if3 .left)
 
 pub told-by-spec : {M : Type 1} → statement M
 told-by-spec =

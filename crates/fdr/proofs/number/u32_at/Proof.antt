@@ -1,46 +1,42 @@
--- `fdr::number::u32_at` meets its contract: a number of four bytes is two of two. Assumes nothing.
+-- `fdr::number::u32_at` meets its contract: as it was read, or turned round. Assumes nothing.
+use mathlib.Core.Path.{sym, ap, _∙_}
 use denote.Ref.{now}
 use native.Mathlib.Omega.{arith}
-use Rattle.fdr.proofs.Numbers.{number-add}
+use Rattle.fdr.specs.Number.{number}
+use Rattle.fdr.specs.Private.{swapped}
+use Rattle.fdr.specs.declared.form.Order.{Order}
+use Rattle.fdr.proofs.Numbers.{swap-number}
 use borrow.Author.Needs.{needs}
 use Rattle.fdr.proofs.number.u32_at.Statement.{statement}
 use Rattle.fdr.proofs.number.u32_at.Tie as tie
 
-u16-at-requires : tie.Need-u16-at-requires
-u16-at-requires c κs = search needs
+little32-requires : tie.Need-little32-requires
+little32-requires c κs = search needs
 
-cast-result : tie.Need-cast-result
-cast-result c = search needs
+enum-told : tie.Need-enum-told
+enum-told c = search needs
 
-add-u16-at : tie.Need-add-u16-at
-add-u16-at c = search needs
+enum-told-2 : tie.Need-enum-told-2
+enum-told-2 c = search needs
 
-u16-at-requires-2 : tie.Need-u16-at-requires-2
-u16-at-requires-2 c κs = search needs
-
-cast-result-2 : tie.Need-cast-result-2
-cast-result-2 c = search needs
-
-mul-result : tie.Need-mul-result
-mul-result c = search needs
-
-add-result : tie.Need-add-result
-add-result c = search needs
+swap32-requires : tie.Need-swap32-requires
+swap32-requires c κs = search needs
 
 returns : tie.Need-returns
 returns c =
-    let a = c .before .before .before .args in
-    omega (arith, number-add 2 2 (now (a .s)) (a .at), c .u16-at2 .ensures, c .before .u16-at .ensures)
+    let read = c .before .before in
+    let a = read .before .before .args in
+    read .little32 .ensures ∙ ap (λ (o : Order). number o 4 (now (a .s)) (a .at)) (sym (c .enum-told .given .1))
+
+returns-2 : tie.Need-returns-2
+returns-2 c =
+    let read = c .before .before .before in
+    let a = read .before .before .args in
+    c .swap32 .ensures
+    ∙ ap (swapped 4) (read .little32 .ensures)
+    ∙ swap-number 4 (now (a .s)) (a .at) (λ i. omega (arith, read .before .shared-slice-known .given i)) (read .before .before .pre)
+    ∙ ap (λ (o : Order). number o 4 (now (a .s)) (a .at)) (sym (c .before .enum-told2 .given .1))
 
 pub u32-at-spec : {M : Type 1} → statement M
 u32-at-spec =
-    tie.close
-    (tie.spec
-    u16-at-requires
-    cast-result
-    add-u16-at
-    u16-at-requires-2
-    cast-result-2
-    mul-result
-    add-result
-    returns)
+    tie.close (tie.spec little32-requires enum-told enum-told-2 swap32-requires returns returns-2)

@@ -25,7 +25,7 @@ fits c = omega (arith, c .if1 .left, c .before .event-size .ensures, start (c .b
 
 -- Its thread agrees.
 abbrev tested : tie.After-joined → tie.Else1
-tested c = c .before .before .before
+tested c = c .before .before .before .before
 
 agrees : (c : tie.After-joined) → joinedBy (start (tested c .before) .args .at .threads) (start (tested c .before) .args .«record») ≡ joins (c .joined .given .0 .0)
 agrees c = sym (c .before .before .join .ensures) ∙ ap joiningOf (c .joined .given .1)
@@ -80,7 +80,7 @@ refused-requires-3 c κs = search needs
 
 returns-3 : tie.Need-returns-3
 returns-3 c =
-    let fitting = c .before .before .before .before in
+    let fitting = c .before .before .before .before .before in
     let a = start (fitting .before) .args in
     ap steppingOf (c .refused3 .ensures)
     ∙ sym (other-thread (a .at) (a .end) (a .«record») (a .behind) _ _ (allowed (fitting .before)) (fits fitting) _

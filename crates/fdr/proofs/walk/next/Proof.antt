@@ -37,7 +37,7 @@ returns-2 c =
     let front = c .before .before .before in
     let a = start front .args in
     ap steppingOf (c .refused .ensures)
-    ∙ sym (entered front ∙ step-refused (now (a .log)) (a .at) _ _ _ (sym (past-log _ _ _ (omega (arith, c .before .if2 .taken, front .if1 .left)))))
+    ∙ sym (entered front ∙ step-refused (now (a .log)) (a .at) _ _ _ (sym (past-log _ _ _ _ (omega (arith, c .before .if2 .taken, front .if1 .left)))))
 
 add-step-in : tie.Need-add-step-in
 add-step-in c = search needs

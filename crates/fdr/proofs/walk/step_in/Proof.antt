@@ -10,9 +10,9 @@ use Rattle.fdr.proofs.walk.step_in.Tie as tie
 
 -- A record was read.
 abbrev start : tie.After-known-told → tie.Start
-start c = c .before .before .before .before .before
+start c = c .before .before .before .before .before .before
 
-was-read : (c : tie.After-known-told) → recordAt (now (start c .args .log)) (start c .args .end) (start c .args .at .place) ≡ found (c .before .read .given .0 .0) (c .before .read .given .0 .1 .0)
+was-read : (c : tie.After-known-told) → recordAt (start c .args .at .form) (now (start c .args .log)) (start c .args .end) (start c .args .at .place) ≡ found (c .before .read .given .0 .0) (c .before .read .given .0 .1 .0)
 was-read c = sym (c .before .before .before .record-at .ensures) ∙ ap readingOf (c .before .read .given .1)
 
 record-at-requires : tie.Need-record-at-requires
@@ -29,13 +29,13 @@ unread-requires c κs = search needs
 
 returns : tie.Need-returns
 returns c =
-    let a = c .before .before .before .before .before .args in
+    let a = c .before .before .before .before .before .before .args in
     let read = ap readingOf (c .before .enum-told .given .1) in
     c .unread .ensures _ _ read
     ∙ sym (step-refused (now (a .log)) (a .at) _ _ _ (sym (c .before .before .before .record-at .ensures) ∙ read))
 
 admit-requires : tie.Need-admit-requires
-admit-requires c κs = placed _ _ _ _ _ (was-read c) .within
+admit-requires c κs = placed _ _ _ _ _ _ (was-read c) .within
 
 returns-2 : tie.Need-returns-2
 returns-2 c =
