@@ -68,7 +68,7 @@ module _ (f : Form) (header : List ℕ) (size room : ℕ) (w : Writer) (out : Li
       → ((s : List ℕ) → stateAfter w c .end ≤ length s → Here s (w .place) (callBytes w c) → ReadsTo s (posOf w (h .threads)) (posOf (stateAfter w c) threads) (loggedBy w c))
       → Result c
   put-on c p threads agreed reads =
-      let (sizes, same) = same-log w c in
+      let (_, sizes, same) = same-log w c in
       let (place, end) = moved-on (h .state) c p in
       let next : Sound (stateAfter w c) room = call-sound (h .state) c p in
       let (from, to) = in-log next in

@@ -21,7 +21,7 @@ start c = c .before .before .before .before .before
 tells : (c : tie.After-replay) → verdictOf (c .replay .result) ≡ answer (formOf (start c .args .order)) (start c .args .log .now) (start c .args .table .now)
 tells c = c .replay .ensures .0 ∙ ap (λ (f : Form). answer f (start c .args .log .now) (start c .args .table .now)) (c .before .before .named .ensures)
 
-leaves : (c : tie.After-replay) → c .replay .last .1 .0 ≡ tableAfter (formOf (start c .args .order)) (start c .args .log .now) (start c .args .table .now)
+leaves : (c : tie.After-replay) → c .replay .last .1 .1 .0 ≡ tableAfter (formOf (start c .args .order)) (start c .args .log .now) (start c .args .table .now)
 leaves c = c .replay .ensures .1 .0 ∙ ap (λ (f : Form). tableAfter f (start c .args .log .now) (start c .args .table .now)) (c .before .before .named .ensures)
 
 named-requires : tie.Need-named-requires

@@ -42,8 +42,8 @@ returns c =
     let a = start c .args in
     let r = made c .record-of in
     let w = made c .before .writer-of .ensures in
-    let answers = added c .add .ensures .0 ∙ ap (λ (x : Writer). calledOn x (adding (r .result) (a .event .now)) (length (a .out .now))) w ∙ ap (λ (x : Record). calledOn (writerOf (a .size) (a .thread) (a .place) (a .end) (a .stage)) (adding x (a .event .now)) (length (a .out .now))) (r .ensures) in
-    let leaves = added c .add .ensures .1 ∙ ap (λ (x : Writer). outputCalled x (adding (r .result) (a .event .now)) (a .out .now)) w ∙ ap (λ (x : Record). outputCalled (writerOf (a .size) (a .thread) (a .place) (a .end) (a .stage)) (adding x (a .event .now)) (a .out .now)) (r .ensures) in
+    let answers = added c .add .ensures .0 ∙ ap (λ (x : Writer). calledOn x (adding (r .result) (a .event .now)) (length (a .out .now))) w ∙ ap (λ (x : Record). calledOn (writerOf (a .order) (a .size) (a .thread) (a .place) (a .end) (a .stage)) (adding x (a .event .now)) (length (a .out .now))) (r .ensures) in
+    let leaves = added c .add .ensures .1 ∙ ap (λ (x : Writer). outputCalled x (adding (r .result) (a .event .now)) (a .out .now)) w ∙ ap (λ (x : Record). outputCalled (writerOf (a .order) (a .size) (a .thread) (a .place) (a .end) (a .stage)) (adding x (a .event .now)) (a .out .now)) (r .ensures) in
     (c .answered .ensures ∙ ap (λ (x : Replying). getD (outcomeNumbers x) (a .which) 0) answers, leaves)
 
 pub probe-add-spec : {M : Type 1} → statement M

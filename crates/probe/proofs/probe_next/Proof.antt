@@ -1,15 +1,17 @@
--- `probe::probe_next` meets its contract: the list is ten numbers long. Assumes nothing.
+-- `probe::probe_next` meets its contract: the list is eleven numbers long. Assumes nothing.
 use Rattle.probe.specs.Numbers.{positionOf, steppingNumbers}
 use Rattle.fdr.specs.Walk.{next}
 use Rattle.probe.proofs.Lists.{stepping-long, past}
 use lib.ListN.{getD}
-use denote.Ref.{now}
 use mathlib.Core.List.{List}
 use Prim.Native.Nat.{ℕ}
 use mathlib.Core.Path.{ap, _∙_}
 use borrow.Author.Needs.{needs}
 use Rattle.probe.proofs.probe_next.Statement.{statement}
 use Rattle.probe.proofs.probe_next.Tie as tie
+
+abbrev start : tie.After-step-numbers → tie.Start
+start c = c .before .before .before .before
 
 position-of-requires : tie.Need-position-of-requires
 position-of-requires c κs = search needs
@@ -27,10 +29,13 @@ array-read-result : tie.Need-array-read-result
 array-read-result c = search needs
 
 returns : tie.Need-returns
-returns c = ap (λ (l : List ℕ). getD l (c .before .before .before .before .before .args .which) 0) (c .before .step-numbers .ensures ∙ ap steppingNumbers (c .before .before .next .ensures ∙ ap (next (now (c .before .before .before .before .before .args .log))) (c .before .before .before .position-of .ensures)))
+returns c = ap (λ (l : List ℕ). getD l (start (c .before) .args .which) 0) (c .before .step-numbers .ensures ∙ ap steppingNumbers (c .before .before .next .ensures ∙ ap (next (start (c .before) .args .log .now)) (c .before .before .before .position-of .ensures)))
 
 returns-2 : tie.Need-returns-2
-returns-2 c = past (steppingNumbers (next (now (c .before .before .before .before .before .args .log)) (positionOf (c .before .before .before .before .before .args .place) (c .before .before .before .before .before .args .end) (c .before .before .before .before .before .args .size) (c .before .before .before .before .before .args .stage) (c .before .before .before .before .before .args .thread)))) 10 (c .before .before .before .before .before .args .which) (stepping-long (next (now (c .before .before .before .before .before .args .log)) (positionOf (c .before .before .before .before .before .args .place) (c .before .before .before .before .before .args .end) (c .before .before .before .before .before .args .size) (c .before .before .before .before .before .args .stage) (c .before .before .before .before .before .args .thread)))) (c .if1 .left)
+returns-2 c =
+    let a = start (c .before) .args in
+    let v = next (a .log .now) (positionOf (a .order) (a .place) (a .end) (a .size) (a .stage) (a .thread)) in
+    past (steppingNumbers v) 11 (a .which) (stepping-long v) (c .if1 .left)
 
 pub probe-next-spec : {M : Type 1} → statement M
 probe-next-spec =

@@ -1,4 +1,4 @@
--- `probe::list::answered` meets its contract: the list is six numbers long. Assumes nothing.
+-- `probe::list::answered` meets its contract: the list is seven numbers long. Assumes nothing.
 use Rattle.probe.proofs.Lists.{past, outcome-long}
 use Rattle.probe.specs.Numbers.{outcomeNumbers}
 use Rattle.log_writer.specs.Start.{replyingOf}
@@ -24,7 +24,7 @@ returns c = ap (λ (l : List ℕ). getD l (c .before .before .args .which) 0) (c
 
 returns-2 : tie.Need-returns-2
 returns-2 c = let v = replyingOf (c .before .before .args .answer) in
-    past (outcomeNumbers v) 6 (c .before .before .args .which) (outcome-long v) (c .if1 .left)
+    past (outcomeNumbers v) 7 (c .before .before .args .which) (outcome-long v) (c .if1 .left)
 
 pub answered-spec : {M : Type 1} → statement M
 answered-spec =

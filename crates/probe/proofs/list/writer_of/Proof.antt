@@ -3,14 +3,17 @@ use borrow.Author.Needs.{needs}
 use Rattle.probe.proofs.list.writer_of.Statement.{statement}
 use Rattle.probe.proofs.list.writer_of.Tie as tie
 
-cast-t8 : tie.Need-cast-t8
-cast-t8 c = search needs
+named-requires : tie.Need-named-requires
+named-requires c κs = search needs
+
+cast-t10 : tie.Need-cast-t10
+cast-t10 c = search needs
 
 stage-of-requires : tie.Need-stage-of-requires
 stage-of-requires c κs = search needs
 
 returns : tie.Need-returns
-returns c = rw (c .stage-of .ensures)
+returns c = rw (c .before .named .ensures, c .stage-of .ensures)
 
 pub writer-of-spec : {M : Type 1} → statement M
-writer-of-spec = tie.close (tie.spec cast-t8 stage-of-requires returns)
+writer-of-spec = tie.close (tie.spec named-requires cast-t10 stage-of-requires returns)
