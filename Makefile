@@ -6,6 +6,7 @@ DESTDIR =
 PROGRAM = target/host/towercloak
 LIBRARY = target/lib/libtowercloak
 VERSION = $(shell sed -n 's/^.define TOWERCLOAK_VERSION "\(.*\)"$$/\1/p' include/towercloak.h)
+SHARED = libtowercloak.so.$(firstword $(subst ., ,$(VERSION)))
 
 help:
 	@echo 'make host       proves and builds the program and the libraries: $(PROGRAM), $(LIBRARY).a and .so'
@@ -29,12 +30,12 @@ fuzz:
 
 host: $(PROGRAM)
 
-$(LIBRARY).a: host/library crates.txt $(shell find crates -name '*.rt' -o -name '*.antt')
+$(LIBRARY).a: host/library include/towercloak.h crates.txt $(shell find crates -name '*.rt' -o -name '*.antt')
 	rt staticlib towercloak
 	rt staticlib desk
 	host/library
 
-$(PROGRAM): host/build $(LIBRARY).a include/towercloak.h $(wildcard host/*.c host/*.h)
+$(PROGRAM): host/build $(LIBRARY).a $(wildcard host/*.c host/*.h)
 	host/build
 
 install: $(PROGRAM)
@@ -43,8 +44,8 @@ install: $(PROGRAM)
 	install -m 755 $(PROGRAM) $(DESTDIR)$(PREFIX)/bin
 	install -m 644 include/towercloak.h $(DESTDIR)$(PREFIX)/include
 	install -m 644 $(LIBRARY).a $(DESTDIR)$(PREFIX)/lib
-	install -m 755 $(LIBRARY).so.1 $(DESTDIR)$(PREFIX)/lib
-	ln -sf libtowercloak.so.1 $(DESTDIR)$(PREFIX)/lib/libtowercloak.so
+	install -m 755 target/lib/$(SHARED) $(DESTDIR)$(PREFIX)/lib
+	ln -sf $(SHARED) $(DESTDIR)$(PREFIX)/lib/libtowercloak.so
 	sed 's|@PREFIX@|$(PREFIX)|; s|@VERSION@|$(VERSION)|' host/towercloak.pc \
 	    > $(DESTDIR)$(PREFIX)/lib/pkgconfig/towercloak.pc
 	install -m 644 docs/towercloak.1 $(DESTDIR)$(PREFIX)/share/man/man1

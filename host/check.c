@@ -10,7 +10,7 @@
 #include <string.h>
 
 static const char help[] =
-    "usage: towercloak check [--within PERCENT] [--format=text|csv|json] LOG REFERENCE\n"
+    "usage: towercloak check [--big-endian] [--within PERCENT] [--format=text|csv|json] LOG REFERENCE\n"
     "\n"
     "Compares a log with the reference's, function by function, and prints a line for each function of either: its id,\n"
     "on each side the number of measured calls and their time, and one answer, the first of these that applies:\n"
@@ -25,8 +25,11 @@ static const char help[] =
     "The last line is the verdict: passes, slower or not-compared, and how often each answer came. Times are shown\n"
     "rounded, and nothing goes by what is shown. csv has the lines alone; json names every number.\n"
     "\n"
-    "  --within PERCENT   a function that is higher by up to so many whole percent, 0 to 1000, is not slower\n"
-    "  LOG, REFERENCE     logs of up to 16,777,216 bytes, pipes that hold one, or - for standard input\n"
+    "  --big-endian             both logs are big-endian: the highest byte of each number comes first\n"
+    "  --log-big-endian         LOG alone is\n"
+    "  --reference-big-endian   REFERENCE alone is\n"
+    "  --within PERCENT         a function that is higher by up to so many whole percent, 0 to 1000, is not slower\n"
+    "  LOG, REFERENCE           logs of up to 16,777,216 bytes, pipes that hold one, or - for standard input\n"
     "\n"
     "Exit status: 0 each function of the reference is there, compared and not slower; 1 a log is refused, told as\n"
     "'refused NUMBER at PLACE'; 2 a file can't be read; 3 some function is slower; 4 none is slower, but something\n"
@@ -152,7 +155,8 @@ static int run(const struct options *options, char **words, int count) {
     (void)count;
     if (strcmp(words[0], "-") == 0 && strcmp(words[1], "-") == 0)
         return misused(&check_command, "standard input holds one log");
-    int log = report_on(words[0], &check.log), reference = report_on(words[1], &check.reference);
+    int log = report_on(words[0], options->order, &check.log);
+    int reference = report_on(words[1], options->reference_order, &check.reference);
     if (log != DONE || reference != DONE)
         return log > reference ? log : reference;
     check.within = options->within;
@@ -164,4 +168,4 @@ static int run(const struct options *options, char **words, int count) {
     return verdict(&check);
 }
 
-const struct command check_command = {"check", help, "fw", 2, 2, run};
+const struct command check_command = {"check", help, "fwblr", 2, 2, run};

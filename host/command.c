@@ -2,6 +2,7 @@
 #include "command.h"
 
 #include "tell.h"
+#include "towercloak.h"
 
 #include <errno.h>
 #include <getopt.h>
@@ -9,12 +10,17 @@
 #include <stdlib.h>
 #include <string.h>
 
-enum { HELP = 'h', OUT = 'o', FORMAT = 'f', WITHIN = 'w', MOST_PERCENT = 1000 };
+enum { HELP = 'h', OUT = 'o', FORMAT = 'f', WITHIN = 'w', BIG = 'b', BIG_LOG = 'l', BIG_REFERENCE = 'r' };
+
+enum { MOST_PERCENT = 1000 };
 
 static const struct option long_options[] = {
     {"help", no_argument, NULL, HELP},
     {"format", required_argument, NULL, FORMAT},
     {"within", required_argument, NULL, WITHIN},
+    {"big-endian", no_argument, NULL, BIG},
+    {"log-big-endian", no_argument, NULL, BIG_LOG},
+    {"reference-big-endian", no_argument, NULL, BIG_REFERENCE},
     {NULL, 0, NULL, 0},
 };
 
@@ -51,11 +57,15 @@ static const char *take(const struct command *command, int letter, struct option
         return "--format is text, csv or json";
     else if (letter == WITHIN && (!is_number(optarg, &options->within) || options->within > MOST_PERCENT))
         return "--within is a whole number of percent, from 0 to 1000";
+    if (letter == BIG || letter == BIG_LOG)
+        options->order = TOWERCLOAK_BIG_ENDIAN;
+    if (letter == BIG || letter == BIG_REFERENCE)
+        options->reference_order = TOWERCLOAK_BIG_ENDIAN;
     return NULL;
 }
 
 int run_command(const struct command *command, int count, char **words) {
-    struct options options = {NULL, TEXT, 0};
+    struct options options = {NULL, TEXT, 0, TOWERCLOAK_LITTLE_ENDIAN, TOWERCLOAK_LITTLE_ENDIAN};
     int letter;
     opterr = 0;
     while ((letter = getopt_long(count, words, "o:", long_options, NULL)) != -1) {

@@ -9,12 +9,13 @@ enum format { TEXT, CSV, JSON };
 struct options {
     const char *out; /* -o, or null */
     enum format format;
-    uint64_t within; /* percent */
+    uint64_t within;                 /* percent */
+    uint32_t order, reference_order; /* the byte order of logs, and of check's reference */
 };
 
 struct command {
     const char *name, *help;
-    const char *options; /* letters of those that it takes: o, f for --format, w for --within */
+    const char *options; /* letters of those that it takes, as command.c has them */
     int least, most;     /* how many words it takes beside them */
     int (*run)(const struct options *options, char **words, int count);
 };

@@ -109,6 +109,15 @@ int read_log(const char *name, enum taken taken, struct log *log) {
     return wrong == NULL ? DONE : failed(name, wrong);
 }
 
+void hint_at_order(const char *name, const struct log *log, uint32_t order) {
+    int little = order == TOWERCLOAK_LITTLE_ENDIAN;
+    uint32_t other = little ? TOWERCLOAK_BIG_ENDIAN : TOWERCLOAK_LITTLE_ENDIAN;
+    uint64_t fields[4];
+    if (towercloak_header(log->bytes, log->length, other, &fields[0], &fields[1], &fields[2], &fields[3]) == 0)
+        warn(name, little ? "its header is a big-endian log's: see --big-endian"
+                          : "its header is a little-endian log's: see --big-endian");
+}
+
 void drop_log(struct log *log) {
     munmap(log->bytes, ROOM);
     log->bytes = NULL;

@@ -22,6 +22,9 @@ int leave_no_core(void);
  * FAILED and tells why. */
 int read_log(const char *name, enum taken taken, struct log *log);
 
+/* Tells on standard error, of a log that was refused in this byte order, where its header passes in the other one. */
+void hint_at_order(const char *name, const struct log *log, uint32_t order);
+
 /* Gives its memory back. */
 void drop_log(struct log *log);
 

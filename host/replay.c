@@ -7,14 +7,15 @@
 #include <stdio.h>
 
 static const char help[] =
-    "usage: towercloak replay [--format=text|csv|json] FILE\n"
+    "usage: towercloak replay [--big-endian] [--format=text|csv|json] FILE\n"
     "\n"
     "Prints what the log's call stack did: the numbers of rows, buffers, records and calls still open, then a row for\n"
     "each function, in the order of first entry: its id, how often it was entered, closed, closed backward and\n"
     "abandoned, and the sum of its ticks. csv and json name each number, and have the header's fields too. csv repeats\n"
     "in each line what is the whole log's; of a log without functions it has one line, whose first six cells are empty.\n"
     "\n"
-    "  FILE   a log of up to 16,777,216 bytes, a pipe that holds one, or - for standard input\n"
+    "  --big-endian   the log is big-endian: the highest byte of each number comes first\n"
+    "  FILE           a log of up to 16,777,216 bytes, a pipe that holds one, or - for standard input\n"
     "\n"
     "Exit status: 0, 1 for a log that is refused, told as 'refused NUMBER at PLACE', 2 for a file that can't be read.\n";
 
@@ -69,10 +70,10 @@ static int run(const struct options *options, char **words, int count) {
     static void (*const print[])(const struct report *) = {[TEXT] = print_text, [CSV] = print_csv, [JSON] = print_json};
     static struct report report;
     (void)count;
-    int status = report_on(words[0], &report);
+    int status = report_on(words[0], options->order, &report);
     if (status == DONE)
         print[options->format](&report);
     return status;
 }
 
-const struct command replay_command = {"replay", help, "f", 1, 1, run};
+const struct command replay_command = {"replay", help, "fb", 1, 1, run};

@@ -6,18 +6,22 @@
 #include <inttypes.h>
 #include <stdio.h>
 
-int report_on(const char *name, struct report *report) {
+int report_on(const char *name, uint32_t order, struct report *report) {
     struct log log;
     uint64_t place;
     int status = read_log(name, ANY, &log);
     if (status != DONE)
         return status;
-    towercloak_header(log.bytes, log.length, &report->frequency, &report->constant_tsc, &report->nonstop_tsc,
+    towercloak_header(log.bytes, log.length, order, &report->frequency, &report->constant_tsc, &report->nonstop_tsc,
                       &report->buffer_size);
-    uint32_t number = towercloak_replay(log.bytes, log.length, report->table, TOWERCLOAK_TABLE, &report->rows,
+    uint32_t number = towercloak_replay(log.bytes, log.length, order, report->table, TOWERCLOAK_TABLE, &report->rows,
                                         &report->buffers, &report->records, &report->open, &place);
+    if (number != 0) {
+        status = refused(name, number, place);
+        hint_at_order(name, &log, order);
+    }
     drop_log(&log);
-    return number == 0 ? DONE : refused(name, number, place);
+    return status;
 }
 
 const uint64_t *row_of(const struct report *report, uint64_t place) {

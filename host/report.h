@@ -13,8 +13,8 @@ struct report {
     uint64_t table[TOWERCLOAK_TABLE];
 };
 
-/* Replays the log that this file holds. Gives DONE, or REFUSED or FAILED and tells why. */
-int report_on(const char *name, struct report *report);
+/* Replays the log of this byte order that the file holds. Gives DONE, or REFUSED or FAILED and tells why. */
+int report_on(const char *name, uint32_t order, struct report *report);
 
 /* A row of the table, by its place in the order of first entry. */
 const uint64_t *row_of(const struct report *report, uint64_t place);

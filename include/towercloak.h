@@ -15,7 +15,14 @@
 extern "C" {
 #endif
 
-#define TOWERCLOAK_VERSION "1.0.0"
+/* The first number is also the shared library's, and goes up where programs that call it have to change. */
+#define TOWERCLOAK_VERSION "2.0.0"
+
+/* The byte order of a log, which its bytes don't tell. A log of one order is refused by 2 as one of the other. */
+enum {
+    TOWERCLOAK_LITTLE_ENDIAN = 0,
+    TOWERCLOAK_BIG_ENDIAN = 1 /* as is any other number */
+};
 
 enum {
     TOWERCLOAK_LONGEST = 16777216, /* the most bytes of a log */
@@ -51,7 +58,7 @@ uint32_t towercloak_compare(uint64_t frequency_a, uint64_t constant_tsc_a, uint6
                             uint64_t frequency_b, uint64_t constant_tsc_b, uint64_t closed_b,
                             uint64_t backward_b, uint64_t ticks_b);
 
-/* Scrubs the log in these length bytes, in place.
+/* Scrubs the log of this byte order in these length bytes, in place.
  *
  * 0           it was well-formed. Now its hidden bytes are 0: header bytes 24 to 31, every reserved or unused
  *             byte of a record, the arguments of calls, the bytes of events, and the skipped rest of each
@@ -62,9 +69,10 @@ uint32_t towercloak_compare(uint64_t frequency_a, uint64_t constant_tsc_a, uint6
  *
  * place must point to one number, which is written whatever the answer.
  */
-uint32_t towercloak_scrub(uint8_t *log, size_t length, uint64_t *place);
+uint32_t towercloak_scrub(uint8_t *log, size_t length, uint32_t order, uint64_t *place);
 
-/* Replays the log in these length bytes: what its call stack did, for each function, in the lent table.
+/* Replays the log of this byte order in these length bytes: what its call stack did, for each function, in the lent
+ * table.
  *
  * 0            Each function that was entered has a row of six numbers, in the order of first entry: its id, how
  *              often it was entered, closed, closed backward (the clock at the exit was below that at the entry;
@@ -78,11 +86,11 @@ uint32_t towercloak_scrub(uint8_t *log, size_t length, uint64_t *place);
  * its first TOWERCLOAK_TABLE numbers are written, rows and then zeros, or zeros alone where the log is refused;
  * those behind them are never touched.
  */
-uint32_t towercloak_replay(const uint8_t *log, size_t length, uint64_t *table, size_t numbers,
+uint32_t towercloak_replay(const uint8_t *log, size_t length, uint32_t order, uint64_t *table, size_t numbers,
                            uint64_t *rows, uint64_t *buffers, uint64_t *records, uint64_t *open,
                            uint64_t *place);
 
-/* Reads the header of the log in these length bytes.
+/* Reads the header of the log of this byte order in these length bytes.
  *
  * 0       *frequency is its cycle_frequency in Hz, *constant_tsc and *nonstop_tsc are its flags, 0 or 1, and
  *         *buffer_size is the number of bytes of each buffer.
@@ -90,8 +98,8 @@ uint32_t towercloak_replay(const uint8_t *log, size_t length, uint64_t *table, s
  *
  * 1 and 4 go by the whole log's length, so the log is handed over whole.
  */
-uint32_t towercloak_header(const uint8_t *log, size_t length, uint64_t *frequency, uint64_t *constant_tsc,
-                           uint64_t *nonstop_tsc, uint64_t *buffer_size);
+uint32_t towercloak_header(const uint8_t *log, size_t length, uint32_t order, uint64_t *frequency,
+                           uint64_t *constant_tsc, uint64_t *nonstop_tsc, uint64_t *buffer_size);
 
 #ifdef __cplusplus
 }
