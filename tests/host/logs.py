@@ -41,15 +41,29 @@ def scrubbed(mib, first):
     return log(mib, first, bytes(len(TEXT)))
 
 
+# The fields of the metadata records, by their kinds, as struct has them.
+METADATA = ["H13s", "15s", "HQ5s", "Q7s", "QI3s", "IQ3s", "Q7s"]
+
+
+def turned(record):
+    """A little-endian record in its big-endian form."""
+    if record[0] % 2 == 0:
+        first, delta = struct.unpack("<II", record)
+        return struct.pack(">II", (first >> 1) % 8 << 28 | first >> 4, delta)
+    kind = record[0] >> 1
+    return bytes([0x80 | kind]) + struct.pack(">" + METADATA[kind], *struct.unpack("<" + METADATA[kind], record[1:]))
+
+
 # What a function did in a log, as its row has it.
 Row = namedtuple("Row", "entered closed backward abandoned ticks")
 
 
 class Story:
-    """A log that is told call by call, and the rows that it must give, in the order of first entry."""
+    """A log that is told call by call, and the rows that it must give, in the order of first entry. Of its flags,
+    constant_tsc is 1 and nonstop_tsc is 2."""
 
-    def __init__(self, frequency=10**9, flags=3):
-        self.frequency, self.flags = frequency, flags
+    def __init__(self, frequency=10**9, flags=3, big=False):
+        self.frequency, self.flags, self.big = frequency, flags, big
         self.body, self.rows, self.records = [], {}, 4
 
     def _did(self, function, *numbers):
@@ -83,7 +97,9 @@ class Story:
         self._did(function, 1, 0, 0, 0, 0)
 
     def log(self):
-        text = b"".join(self.body)
-        size = 64 + len(text)
-        header = struct.pack("<HHIQQQ", 1, 1, self.flags, self.frequency, size, 0)
-        return header + make.lead() + text + make.end_of_buffer()
+        records = [make.new_buffer(), make.wall_time(), make.new_cpu_id(0, 1000), *self.body, make.end_of_buffer()]
+        size = sum(map(len, records))
+        if not self.big:
+            return struct.pack("<HHIQQQ", 1, 1, self.flags, self.frequency, size, 0) + b"".join(records)
+        flags = self.flags % 2 << 31 | self.flags // 2 << 30
+        return struct.pack(">HHIQQQ", 1, 1, flags, self.frequency, size, 0) + b"".join(map(turned, records))

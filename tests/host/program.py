@@ -1,4 +1,4 @@
-"""Runs the program that is tried: that of target/host, or the one that PROGRAM names."""
+"""Runs the program that is tried: that of target/host, or the one that PROGRAM names; and the samples' byte orders."""
 
 import os
 import subprocess
@@ -15,6 +15,11 @@ def run(*words, given=b"", **more):
     """What it answers to these words, with these bytes on standard input."""
     ran = subprocess.run([PROGRAM, *words], input=given, capture_output=True, **more)
     return Ran(ran.returncode, ran.stdout.decode(), ran.stderr.decode(errors="replace"))
+
+
+def is_big_endian(path):
+    """Whether this sample is to be read as a big-endian log."""
+    return path.stem.endswith("-big-endian")
 
 
 class Checks:
