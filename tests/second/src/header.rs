@@ -1,7 +1,7 @@
 //! The header and its tests. Paper 01, "Bytes of a log" and "The numbered
 //! refusals", 1 to 4.
 
-use crate::record::number;
+use crate::order::Order;
 
 /// Bytes of the header.
 pub const SIZE: usize = 32;
@@ -20,27 +20,28 @@ pub struct Header {
 }
 
 /// Tests 1 to 4 in order. The error is the refusal's number.
-pub fn check(log: &[u8]) -> Result<Header, u8> {
+pub fn check(log: &[u8], order: Order) -> Result<Header, u8> {
     if log.len() < SIZE || log.len() > LONGEST {
         return Err(1);
     }
-    if number(&log[0..2]) != 1 {
+    if order.number(&log[0..2]) != 1 {
         return Err(2);
     }
-    if number(&log[2..4]) != 1 {
+    if order.number(&log[2..4]) != 1 {
         return Err(3);
     }
-    let buffer_size = number(&log[16..24]);
+    let buffer_size = order.number(&log[16..24]);
     let following = (log.len() - SIZE) as u64;
     // A bare header passes whatever its buffer_size says.
     if following > 0 && (buffer_size < LEAST_BUFFER || !following.is_multiple_of(buffer_size)) {
         return Err(4);
     }
-    let bits = number(&log[4..8]);
+    let bits = order.number(&log[4..8]);
+    let [constant_tsc, nonstop_tsc] = order.flags().map(|flag| bits & flag != 0);
     Ok(Header {
-        constant_tsc: bits & 1 != 0,
-        nonstop_tsc: bits & 2 != 0,
-        frequency: number(&log[8..16]),
+        constant_tsc,
+        nonstop_tsc,
+        frequency: order.number(&log[8..16]),
         buffer_size,
     })
 }

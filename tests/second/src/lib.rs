@@ -1,7 +1,8 @@
 //! A second, independent reading of trace logs after Paper 01: the header's
 //! tests, the record reader, the record writer and the log writer, the walk from
 //! record to record with the grammar, replay with its table, the hidden bytes
-//! and the scrubber, and the comparison of two times.
+//! and the scrubber, and the comparison of two times. All that reads or writes a
+//! log takes its byte order.
 //!
 //! Nothing here is quick or clever: each function follows one passage of the
 //! paper and names it.
@@ -11,6 +12,7 @@
 pub mod compare;
 pub mod header;
 pub mod log_writer;
+pub mod order;
 pub mod reader;
 pub mod record;
 pub mod replay;

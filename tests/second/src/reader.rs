@@ -2,7 +2,8 @@
 //! the log, a buffer's end and a place. It tests 5, 6, 5, 5 and no grammar", and
 //! 19 where it tests 6 (paper 02, CR 2).
 
-use crate::record::{decode, Family, Record};
+use crate::order::Order;
+use crate::record::{decode, Record};
 
 /// The record reader's answer.
 #[derive(Debug, Clone, Copy, PartialEq, Eq)]
@@ -15,8 +16,8 @@ pub enum Read {
 
 /// Reads the record at `place` in the buffer that ends at `end`. Takes any
 /// end and any place.
-pub fn read(log: &[u8], end: u64, place: u64) -> Read {
-    let found = record(log, end, place)
+pub fn read(log: &[u8], order: Order, end: u64, place: u64) -> Read {
+    let found = record(log, order, end, place)
         .and_then(|record| behind(&record, end, place).map(|next| (record, next)));
     match found {
         Ok((record, next)) => Read::Found { record, next },
@@ -26,8 +27,8 @@ pub fn read(log: &[u8], end: u64, place: u64) -> Read {
 
 /// The bytes of the event at `place`, as the part of the log where they lie.
 /// Empty where the place holds no event or a refused one.
-pub fn event(log: &[u8], end: u64, place: u64) -> &[u8] {
-    match read(log, end, place) {
+pub fn event(log: &[u8], order: Order, end: u64, place: u64) -> &[u8] {
+    match read(log, order, end, place) {
         Read::Found { record, next } => {
             let start = place + record.size();
             &log[start as usize..next as usize]
@@ -37,7 +38,7 @@ pub fn event(log: &[u8], end: u64, place: u64) -> &[u8] {
 }
 
 /// The first three tests: 5 (no byte left), 6 or 19, 5 (the record).
-pub fn record(log: &[u8], end: u64, place: u64) -> Result<Record, u8> {
+pub fn record(log: &[u8], order: Order, end: u64, place: u64) -> Result<Record, u8> {
     // "An end past the log, or a place at or past the end, is 5."
     if end > log.len() as u64 || place >= end {
         return Err(5);
@@ -45,11 +46,11 @@ pub fn record(log: &[u8], end: u64, place: u64) -> Result<Record, u8> {
     // From here on both numbers are at most the log's length.
     let left = &log[place as usize..end as usize];
     // The family shows in the first byte: 6 or 19 comes even where one byte is left.
-    if let Some(number) = Family::of(left[0]).strange() {
+    if let Some(number) = order.family(left[0]).strange() {
         return Err(number);
     }
     // The family is known, so only too few bytes can be missing.
-    decode(left).ok_or(5)
+    decode(left, order).ok_or(5)
 }
 
 /// The last test, 5 (its event): the place behind a record at `place` and its

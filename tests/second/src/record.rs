@@ -1,5 +1,7 @@
 //! Records and their bytes. Paper 01, "Bytes of a log".
 
+use crate::order::Order;
+
 /// One record with the values it carries. Its hidden bytes are left out,
 /// except for a CallArgument's argument.
 #[derive(Debug, Clone, Copy, PartialEq, Eq)]
@@ -35,24 +37,17 @@ impl Record {
     }
 }
 
-/// The family of a record: "a record's first byte tells its family".
+/// The family of a record: "a record's first byte tells its family", by the
+/// byte order.
 #[derive(Debug, Clone, Copy, PartialEq, Eq)]
 pub enum Family {
-    /// Low bit 0, with the action.
+    /// With the action.
     Function(u8),
-    /// Low bit 1, with the kind.
+    /// With the kind.
     Metadata(u8),
 }
 
 impl Family {
-    pub fn of(first: u8) -> Family {
-        if first & 1 == 0 {
-            Family::Function((first >> 1) & 0b111)
-        } else {
-            Family::Metadata(first >> 1)
-        }
-    }
-
     /// Paper 02, CR 2: "6 is an action above 3 and a new 19 is a kind above 6".
     pub fn strange(self) -> Option<u8> {
         match self {
@@ -70,33 +65,25 @@ impl Family {
     }
 }
 
-/// The number in these bytes: "all numbers are little-endian".
-pub fn number(bytes: &[u8]) -> u64 {
-    let mut value = 0;
-    for byte in bytes.iter().rev() {
-        value = (value << 8) | u64::from(*byte);
-    }
-    value
-}
-
 /// The record at the start of these bytes. `None` where they are too few, or
 /// where the family is not a known one.
-pub fn decode(bytes: &[u8]) -> Option<Record> {
-    let family = Family::of(*bytes.first()?);
+pub fn decode(bytes: &[u8], order: Order) -> Option<Record> {
+    let family = order.family(*bytes.first()?);
     let bytes = bytes.get(..family.size() as usize)?;
     match family {
         Family::Function(action) if action <= 3 => Some(Record::Function {
             action,
-            id: (number(&bytes[0..4]) >> 4) as u32,
-            delta: number(&bytes[4..8]) as u32,
+            id: order.id(order.number(&bytes[0..4])),
+            delta: order.number(&bytes[4..8]) as u32,
         }),
         Family::Function(_) => None,
-        Family::Metadata(kind) => metadata(kind, &bytes[1..]),
+        Family::Metadata(kind) => metadata(kind, order, &bytes[1..]),
     }
 }
 
 /// The metadata record of this kind with these 15 data bytes.
-fn metadata(kind: u8, data: &[u8]) -> Option<Record> {
+fn metadata(kind: u8, order: Order, data: &[u8]) -> Option<Record> {
+    let number = |bytes| order.number(bytes);
     match kind {
         0 => Some(Record::NewBuffer {
             thread: number(&data[0..2]) as u16,

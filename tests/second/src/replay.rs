@@ -4,6 +4,7 @@
 //! exit 10 and 13. Paper 02, CR 3, for what a tail exit closes.
 
 use crate::header;
+use crate::order::Order;
 use crate::record::{Record, ENTRY_ARGS};
 use crate::walk::{self, Step};
 use std::collections::HashMap;
@@ -41,7 +42,7 @@ pub enum Answer {
 
 /// Replays the log and writes the rows into the lent table. Takes any log and
 /// any table.
-pub fn replay(log: &[u8], table: &mut [u64]) -> Answer {
+pub fn replay(log: &[u8], order: Order, table: &mut [u64]) -> Answer {
     if table.len() < TABLE {
         // "After 14 the counts are zero and the table is untouched."
         let (number, place) = (14, 0);
@@ -50,7 +51,7 @@ pub fn replay(log: &[u8], table: &mut [u64]) -> Answer {
     // "Numbers past those are never touched."
     let written = &mut table[..TABLE];
     written.fill(0);
-    match run(log) {
+    match run(log, order) {
         Ok(state) => {
             for (index, row) in state.rows.iter().enumerate() {
                 written[index * ROW..(index + 1) * ROW].copy_from_slice(&row.numbers());
@@ -62,9 +63,9 @@ pub fn replay(log: &[u8], table: &mut [u64]) -> Answer {
 }
 
 /// The state behind the last record, or the first fault's number and place.
-fn run(log: &[u8]) -> Result<State, (u8, u64)> {
-    let header = header::check(log).map_err(|number| (number, 0))?;
-    let mut position = walk::start(&header);
+fn run(log: &[u8], order: Order) -> Result<State, (u8, u64)> {
+    let header = header::check(log, order).map_err(|number| (number, 0))?;
+    let mut position = walk::start(&header, order);
     let mut state = State::default();
     loop {
         match walk::next(log, position) {
@@ -233,13 +234,13 @@ impl State {
 }
 
 /// The lines that the program prints for these bytes of standard input. Paper
-/// 01, "Sample logs".
-pub fn lines(log: &[u8]) -> String {
+/// 01, "Sample logs". The program itself takes little-endian logs alone.
+pub fn lines(log: &[u8], order: Order) -> String {
     if log.len() > INPUT {
         return "too long\n".to_string();
     }
     let mut table = vec![0; TABLE];
-    match replay(log, &mut table) {
+    match replay(log, order, &mut table) {
         Answer::Refused { number, place } => format!("refused {number} at {place}\n"),
         Answer::Report {
             rows,

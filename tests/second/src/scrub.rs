@@ -3,6 +3,7 @@
 //! sentence in "The numbered refusals".
 
 use crate::header;
+use crate::order::Order;
 use crate::record::Record;
 use crate::walk::{self, Position, Step};
 use std::ops::Range;
@@ -55,13 +56,13 @@ const RESERVED: Range<usize> = 24..32;
 
 /// The hidden bytes of a log, by their places and without empty parts. Takes
 /// any log: where one of the refusals 1 to 8 and 19 applies, no more records follow.
-pub fn hidden(log: &[u8]) -> Vec<Part> {
+pub fn hidden(log: &[u8], order: Order) -> Vec<Part> {
     let mut parts = vec![Part {
         kind: Kind::Header,
         bytes: RESERVED.start.min(log.len())..RESERVED.end.min(log.len()),
     }];
-    if let Ok(header) = header::check(log) {
-        let mut position = walk::start(&header);
+    if let Ok(header) = header::check(log, order) {
+        let mut position = walk::start(&header, order);
         while let Step::Found { record, next } = walk::next(log, position) {
             parts.extend(of_record(position.place, &record, &next));
             position = next;
@@ -72,10 +73,10 @@ pub fn hidden(log: &[u8]) -> Vec<Part> {
 }
 
 /// Scrubs the log in place: "tests 1 to 8 only, in the replay's order, and
-/// changes nothing when it refuses", and 19 as 6 (paper 02, CR 2). The error is the refusal's number and
-/// place. Takes any log.
-pub fn scrub(log: &mut [u8]) -> Result<(), (u8, u64)> {
-    let mut position = check(log)?;
+/// changes nothing when it refuses", and 19 as 6 (paper 02, CR 2). The error is
+/// the refusal's number and place. Takes any log.
+pub fn scrub(log: &mut [u8], order: Order) -> Result<(), (u8, u64)> {
+    let mut position = check(log, order)?;
     log[RESERVED].fill(0);
     while let Step::Found { record, next } = walk::next(log, position) {
         for part in of_record(position.place, &record, &next) {
@@ -87,9 +88,9 @@ pub fn scrub(log: &mut [u8]) -> Result<(), (u8, u64)> {
 }
 
 /// All of the tests; the first position of a well-formed log.
-fn check(log: &[u8]) -> Result<Position, (u8, u64)> {
-    let header = header::check(log).map_err(|number| (number, 0))?;
-    let start = walk::start(&header);
+fn check(log: &[u8], order: Order) -> Result<Position, (u8, u64)> {
+    let header = header::check(log, order).map_err(|number| (number, 0))?;
+    let start = walk::start(&header, order);
     let mut position = start;
     loop {
         match walk::next(log, position) {

@@ -3,6 +3,7 @@
 //! 5 (no byte left), 6 or 19, 5 (the record), 7, 5 (its event), 8.
 
 use crate::header::{self, Header};
+use crate::order::Order;
 use crate::reader;
 use crate::record::{Record, ENTRY_ARGS};
 
@@ -24,6 +25,7 @@ pub enum Stage {
 /// A position of the walk.
 #[derive(Debug, Clone, Copy, PartialEq, Eq)]
 pub struct Position {
+    pub order: Order,
     pub place: u64,
     /// The end of the buffer around the place.
     pub end: u64,
@@ -58,8 +60,9 @@ pub enum Outcome {
 }
 
 /// The position behind an accepted header.
-pub fn start(header: &Header) -> Position {
+pub fn start(header: &Header, order: Order) -> Position {
     Position {
+        order,
         place: header::SIZE as u64,
         end: header::SIZE as u64,
         size: header.buffer_size,
@@ -112,7 +115,7 @@ pub fn next(log: &[u8], position: Position) -> Step {
 /// The record at the position and the next position, or a refusal's number.
 fn found(log: &[u8], position: Position) -> Result<(Record, Position), u8> {
     let end = buffer_end(log, position)?;
-    let record = reader::record(log, end, position.place)?;
+    let record = reader::record(log, position.order, end, position.place)?;
     let stage = after(position.stage, &record).ok_or(7)?;
     let behind = reader::behind(&record, end, position.place)?;
     let thread = thread_after(position.thread, &record)?;
@@ -124,9 +127,9 @@ fn found(log: &[u8], position: Position) -> Result<(Record, Position), u8> {
     let next = Position {
         place,
         end,
-        size: position.size,
         stage,
         thread,
+        ..position
     };
     Ok((record, next))
 }
@@ -155,10 +158,10 @@ fn thread_after(seen: Option<u16>, record: &Record) -> Result<Option<u16>, u8> {
 
 /// The header's tests and then the whole walk: the records up to the end or
 /// to the first refusal. A refusal 1 to 4 has place 0.
-pub fn walk(log: &[u8]) -> (Vec<Item>, Outcome) {
+pub fn walk(log: &[u8], order: Order) -> (Vec<Item>, Outcome) {
     let mut items = Vec::new();
-    let mut position = match header::check(log) {
-        Ok(header) => start(&header),
+    let mut position = match header::check(log, order) {
+        Ok(header) => start(&header, order),
         Err(number) => return (items, Outcome::Refused { number, place: 0 }),
     };
     loop {

@@ -3,6 +3,7 @@
 
 use second::log_writer::{add, close, is_body, is_returned, open, start};
 use second::log_writer::{Opening, Start, State, GREATEST_BUFFER as GREATEST};
+use second::order::Order::{self, Big, Little};
 use second::record::Record;
 use second::walk::{walk, Outcome, Stage};
 use second::writer::LEAST_BAD_ID;
@@ -25,8 +26,9 @@ const OPENING: Opening = Opening {
 
 const ARGUMENT: Record = Record::CallArgument { argument: 9 };
 
-fn begin(size: u64, thread: u16) -> Start {
+fn begin(order: Order, size: u64, thread: u16) -> Start {
     Start {
+        order,
         frequency: 1_000_000_000,
         constant_tsc: true,
         nonstop_tsc: true,
@@ -43,7 +45,7 @@ fn event(size: u32) -> Record {
     Record::CustomEvent { size, tsc: 1 }
 }
 
-/// What tells states of one size and thread apart.
+/// What tells states of one order, size and thread apart.
 fn key(state: &State) -> (u64, u64, usize) {
     (state.place, state.end, state.stage as usize)
 }
@@ -71,13 +73,19 @@ fn answers(state: State, out: &mut [u8]) -> Vec<Result<State, u8>> {
     answers
 }
 
-/// Every state that accepted calls return from a start with this size and
-/// thread, on an output of this length.
-fn returned(size: u64, thread: u16, length: usize) -> HashSet<(u64, u64, usize)> {
+/// Every state that accepted calls return from a start with this order, size
+/// and thread, which they keep, on an output of this length.
+fn returned(order: Order, size: u64, thread: u16, length: usize) -> HashSet<(u64, u64, usize)> {
     let out = &mut vec![0; length];
     let mut seen = HashSet::new();
-    let mut next: Vec<State> = start(&begin(size, thread), out).into_iter().collect();
+    let mut next: Vec<State> = start(&begin(order, size, thread), out)
+        .into_iter()
+        .collect();
     while let Some(state) = next.pop() {
+        assert_eq!(
+            (state.order, state.size, state.thread),
+            (order, size, thread)
+        );
         if seen.insert(key(&state)) {
             next.extend(answers(state, out).into_iter().flatten());
         }
@@ -87,14 +95,15 @@ fn returned(size: u64, thread: u16, length: usize) -> HashSet<(u64, u64, usize)>
 
 /// Compares the decision with the search, for every place, end and stage up to
 /// some past the output.
-fn compare(size: u64, thread: u16, length: usize) -> usize {
-    let returned = returned(size, thread, length);
+fn compare(order: Order, size: u64, thread: u16, length: usize) -> usize {
+    let returned = returned(order, size, thread, length);
     let past = length as u64 + 20;
     let mut decided = 0;
     for end in 0..past {
         for place in 0..past {
             for stage in STAGES {
                 let state = State {
+                    order,
                     size,
                     thread,
                     place,
@@ -117,7 +126,7 @@ fn returned_states_of_small_buffers() {
     let mut states = 0;
     for length in 0..=300 {
         for size in 60..=100 {
-            states += compare(size, 7, length);
+            states += compare(Order::ALL[length % 2], size, 7, length);
         }
     }
     println!("{states} states");
@@ -128,7 +137,7 @@ fn returned_states_of_small_buffers() {
 fn returned_states_of_larger_buffers() {
     for size in [101, 112, 128, 134, 135, 200, 260, 268, 269] {
         for length in (32..=300).step_by(9).chain([166, 167, 299, 300]) {
-            assert!(compare(size, 65_535, length) > 0);
+            assert!(compare(Order::ALL[length % 2], size, 65_535, length) > 0);
         }
     }
 }
@@ -137,7 +146,7 @@ fn returned_states_of_larger_buffers() {
 fn sizes_without_a_state() {
     for size in [0, 1, 62, 63, GREATEST + 1, 1 << 32, u64::MAX - 31, u64::MAX] {
         for length in [0, 31, 32, 96, 300] {
-            assert_eq!(compare(size, 0, length), 0);
+            assert_eq!(compare(Big, size, 0, length), 0);
         }
     }
 }
@@ -150,6 +159,7 @@ fn states_far_away() {
             for size in edges.into_iter().chain([64, GREATEST]) {
                 for stage in STAGES {
                     let state = State {
+                        order: Little,
                         size,
                         thread: 0,
                         place,
@@ -166,6 +176,7 @@ fn states_far_away() {
 #[test]
 fn states_at_the_greatest_length() {
     let state = |size, place, end, stage| State {
+        order: Big,
         size,
         thread: 0,
         place,
@@ -197,7 +208,7 @@ fn states_at_the_greatest_length() {
 #[test]
 fn sample_b() {
     let out = &mut [0xEE; 140];
-    let mut state = start(&begin(96, 7), out).unwrap();
+    let mut state = start(&begin(Little, 96, 7), out).unwrap();
     state = open(state, &OPENING, out).unwrap();
     state = add(state, &function(0, 5, 10), &[], out).unwrap();
     state = add(state, &function(1, 5, 30), &[], out).unwrap();
@@ -211,15 +222,15 @@ fn sample_b() {
 #[test]
 fn starting() {
     let out = &mut [7; 33];
-    assert_eq!(start(&begin(63, 0), &mut out[..31]), Err(16));
-    assert_eq!(start(&begin(GREATEST + 1, 0), out), Err(16));
-    assert_eq!(start(&begin(64, 0), &mut out[..31]), Err(15));
+    assert_eq!(start(&begin(Little, 63, 0), &mut out[..31]), Err(16));
+    assert_eq!(start(&begin(Little, GREATEST + 1, 0), out), Err(16));
+    assert_eq!(start(&begin(Little, 64, 0), &mut out[..31]), Err(15));
     assert_eq!(out, &[7; 33]);
-    assert!(start(&begin(GREATEST, 0), &mut out[..32]).is_ok());
+    assert!(start(&begin(Little, GREATEST, 0), &mut out[..32]).is_ok());
     let given = Start {
         frequency: 0x0807_0605_0403_0201,
         constant_tsc: false,
-        ..begin(64, 9)
+        ..begin(Little, 64, 9)
     };
     let state = start(&given, out).unwrap();
     assert_eq!(
@@ -234,7 +245,7 @@ fn starting() {
 #[test]
 fn the_order_of_tests() {
     let out = &mut [0; 96];
-    let begun = start(&begin(64, 0), out).unwrap();
+    let begun = start(&begin(Little, 64, 0), out).unwrap();
     let opened = open(begun, &OPENING, out).unwrap();
     let written = *out;
     let large = |action| function(action, LEAST_BAD_ID, 0);
@@ -261,7 +272,7 @@ fn the_order_of_tests() {
 #[test]
 fn room_for_the_end() {
     let out = &mut [0xFF; 32 + 103];
-    let state = start(&begin(103, 0), out).unwrap();
+    let state = start(&begin(Little, 103, 0), out).unwrap();
     let state = open(state, &OPENING, out).unwrap();
     assert_eq!(add(state, &event(24), &[5; 24], out), Err(15));
     let full = add(state, &event(23), &[5; 23], out).unwrap();
@@ -270,7 +281,7 @@ fn room_for_the_end() {
         .iter()
         .all(|record| add(full, record, &[], out).is_err()));
     close(full, out).unwrap();
-    let (items, outcome) = walk(out);
+    let (items, outcome) = walk(out, Little);
     assert_eq!((items.len(), outcome), (5, Outcome::Done));
 }
 
@@ -278,7 +289,7 @@ fn room_for_the_end() {
 #[test]
 fn the_size_of_an_event() {
     let out = &mut [0; 200];
-    let state = start(&begin(128, 0), out).unwrap();
+    let state = start(&begin(Little, 128, 0), out).unwrap();
     let state = open(state, &OPENING, out).unwrap();
     let before = *out;
     for size in [0, 1, 3, 9, 258, u32::MAX] {
@@ -298,7 +309,7 @@ fn the_size_of_an_event() {
 #[test]
 fn bytes_beside_no_event() {
     let out = &mut [0xFF; 200];
-    let state = start(&begin(128, 0), out).unwrap();
+    let state = start(&begin(Little, 128, 0), out).unwrap();
     let state = open(state, &OPENING, out).unwrap();
     for record in records() {
         let (one, other) = (&mut out.clone(), &mut out.clone());
@@ -314,7 +325,7 @@ fn bytes_beside_no_event() {
 #[test]
 fn runs_of_arguments() {
     let out = &mut [0; 400];
-    let state = start(&begin(300, 0), out).unwrap();
+    let state = start(&begin(Little, 300, 0), out).unwrap();
     let mut state = open(state, &OPENING, out).unwrap();
     for (record, taken) in [
         (function(0, 1, 0), false),

@@ -1,5 +1,6 @@
-//! The second program against the sentences and the samples of Paper 01.
+//! The second program against the sentences and the samples of Papers 01 and 02.
 
+mod big_endian;
 mod bytes;
 mod compare;
 mod log_writer;

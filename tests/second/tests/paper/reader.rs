@@ -1,6 +1,7 @@
 //! The record reader: Paper 01, "Bytes of a log".
 
 use crate::bytes::{event_marker, log, sample_b, END};
+use second::order::Order::Little;
 use second::reader::{self, Read};
 use second::record::Record;
 
@@ -9,10 +10,10 @@ fn the_reader_takes_any_end_and_place() {
     let log = sample_b();
     let five = |end, place| {
         assert_eq!(
-            reader::read(&log, end, place),
+            reader::read(&log, Little, end, place),
             Read::Refused { number: 5, place }
         );
-        assert!(reader::event(&log, end, place).is_empty());
+        assert!(reader::event(&log, Little, end, place).is_empty());
     };
     for (end, place) in [(129, 32), (128, 128), (128, 129), (0, 0), (96, 96)] {
         five(end, place);
@@ -23,7 +24,7 @@ fn the_reader_takes_any_end_and_place() {
     // The end may lie anywhere up to the log's length.
     five(47, 32);
     assert_eq!(
-        reader::read(&log, 48, 32),
+        reader::read(&log, Little, 48, 32),
         Read::Found {
             record: Record::NewBuffer { thread: 7 },
             next: 48,
@@ -34,13 +35,13 @@ fn the_reader_takes_any_end_and_place() {
 #[test]
 fn an_event_is_the_logs_own_part() {
     let log = log(128, &[&event_marker(4), b"tick", &END]);
-    let event = reader::event(&log, 160, 80);
+    let event = reader::event(&log, Little, 160, 80);
     assert_eq!(event, b"tick");
     assert!(std::ptr::eq(event, &log[96..100]));
-    assert_eq!(reader::event(&log, 100, 80), b"tick");
-    assert!(reader::event(&log, 99, 80).is_empty());
-    assert!(reader::event(&log, 160, 64).is_empty());
-    assert!(reader::event(&log, 160, 1000).is_empty());
+    assert_eq!(reader::event(&log, Little, 100, 80), b"tick");
+    assert!(reader::event(&log, Little, 99, 80).is_empty());
+    assert!(reader::event(&log, Little, 160, 64).is_empty());
+    assert!(reader::event(&log, Little, 160, 1000).is_empty());
 }
 
 #[test]
@@ -51,7 +52,7 @@ fn six_and_nineteen_show_in_the_first_byte() {
             (1, kind) if kind > 6 => Some(19),
             _ => None,
         };
-        let strange = match reader::read(&[first; 16], 16, 0) {
+        let strange = match reader::read(&[first; 16], Little, 16, 0) {
             Read::Refused { number, place: 0 } => Some(number).filter(|number| *number != 5),
             _ => None,
         };

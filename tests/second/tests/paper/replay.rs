@@ -5,13 +5,14 @@ mod limits;
 mod log;
 
 use log::{refused, report, run, Log, OLD};
+use second::order::Order::{Big, Little};
 use second::replay::{lines, replay, TABLE};
 use std::path::Path;
 
 #[test]
 fn every_sample_prints_its_lines() {
     let folder = Path::new(env!("CARGO_MANIFEST_DIR")).join("../../samples");
-    let mut seen = 0;
+    let mut seen = [0; 2];
     for entry in std::fs::read_dir(folder).expect("the samples") {
         let path = entry.expect("a file").path();
         if path.extension().is_none_or(|extension| extension != "fdr") {
@@ -19,10 +20,16 @@ fn every_sample_prints_its_lines() {
         }
         let log = std::fs::read(&path).expect("a log");
         let text = std::fs::read_to_string(path.with_extension("txt")).expect("its lines");
-        assert_eq!(lines(&log), text, "{}", path.display());
-        seen += 1;
+        // A sample's name tells the order that it is read in.
+        let name = path.to_string_lossy();
+        let order = match name.ends_with("-big-endian.fdr") {
+            true => Big,
+            false => Little,
+        };
+        assert_eq!(lines(&log, order), text, "{name}");
+        seen[order as usize] += 1;
     }
-    assert!(seen > 20);
+    assert!(seen[0] > 20 && seen[1] > 4);
 }
 
 fn sample_b() -> Log {
@@ -35,7 +42,7 @@ fn sample_b_has_one_row() {
     assert_eq!(log.len(), 128);
     assert_eq!(run(&log), (report(1, 1, 6, 0), vec![[5, 1, 1, 0, 0, 30]]));
     let text = "rows 1 buffers 1 records 6 open 0\n5 1 1 0 0 30\n";
-    assert_eq!(lines(&log), text);
+    assert_eq!(lines(&log, Little), text);
 }
 
 #[test]
@@ -44,11 +51,14 @@ fn a_short_table_is_refused_first_and_left_alone() {
     for log in [&good[..], &good[..31], &[]] {
         for length in [0, 1, TABLE - 1] {
             let mut table = vec![OLD; length];
-            assert_eq!(replay(log, &mut table), refused(14, 0));
+            assert_eq!(replay(log, Little, &mut table), refused(14, 0));
             assert!(table.iter().all(|number| *number == OLD));
         }
     }
-    assert_eq!(replay(&good, &mut vec![OLD; TABLE]), report(1, 1, 6, 0));
+    assert_eq!(
+        replay(&good, Little, &mut vec![OLD; TABLE]),
+        report(1, 1, 6, 0)
+    );
 }
 
 #[test]
@@ -65,16 +75,16 @@ fn header_refusals_have_place_0() {
 
 #[test]
 fn lines_of_odd_inputs() {
-    assert_eq!(lines(&[]), "refused 1 at 0\n");
-    assert_eq!(lines(&[1; 65_536]), "refused 2 at 0\n");
-    assert_eq!(lines(&[1; 65_537]), "too long\n");
+    assert_eq!(lines(&[], Little), "refused 1 at 0\n");
+    assert_eq!(lines(&[1; 65_536], Little), "refused 2 at 0\n");
+    assert_eq!(lines(&[1; 65_537], Little), "too long\n");
     let longest = Log::new(65_504, 1).entry(1, 0).close().bytes;
     assert_eq!(longest.len(), 65_536);
     let text = "rows 1 buffers 1 records 5 open 1\n1 1 0 0 0 0\n";
-    assert_eq!(lines(&longest), text);
+    assert_eq!(lines(&longest, Little), text);
     let longer = Log::new(65_505, 1).entry(1, 0).close().bytes;
     assert_eq!(longer.len(), 65_537);
-    assert_eq!(lines(&longer), "too long\n");
+    assert_eq!(lines(&longer, Little), "too long\n");
 }
 
 #[test]

@@ -3,6 +3,7 @@
 
 use crate::bytes::{argument, buffer, event, header, log, metadata, sample_b};
 use crate::bytes::{DIRT, END, ENTRY, ENTRY_ARGS, EXIT};
+use second::order::Order::Little;
 use second::replay::{replay, Answer, TABLE};
 use second::scrub::{hidden, scrub, Kind, Part};
 use std::ops::Range;
@@ -26,7 +27,7 @@ fn before_body() -> Vec<Part> {
 /// its dirt, and that scrubbing takes away just that.
 fn expect(mut log: Vec<u8>, behind: &[Part]) {
     let parts = [&before_body()[..], behind].concat();
-    assert_eq!(hidden(&log), parts);
+    assert_eq!(hidden(&log, Little), parts);
     let places: Vec<usize> = parts.into_iter().flat_map(|part| part.bytes).collect();
     let dirty = (0..log.len()).filter(|place| log[*place] == DIRT);
     assert_eq!(dirty.collect::<Vec<usize>>(), places);
@@ -34,21 +35,21 @@ fn expect(mut log: Vec<u8>, behind: &[Part]) {
     for byte in &mut clean {
         *byte = if *byte == DIRT { 0 } else { *byte };
     }
-    assert_eq!(scrub(&mut log), Ok(()));
+    assert_eq!(scrub(&mut log, Little), Ok(()));
     assert!(log == clean);
 }
 
 /// Expects this refusal, and the log as it was.
 fn refused(log: &[u8], number: u8, place: u64) {
     let mut after = log.to_vec();
-    assert_eq!(scrub(&mut after), Err((number, place)));
+    assert_eq!(scrub(&mut after, Little), Err((number, place)));
     assert!(after == log);
 }
 
 #[test]
 fn sample_b_byte_by_byte() {
     let mut log = sample_b();
-    assert_eq!(scrub(&mut log), Ok(()));
+    assert_eq!(scrub(&mut log, Little), Ok(()));
     let path = Path::new(env!("CARGO_MANIFEST_DIR")).join("../../samples/b.fdr");
     let clean = std::fs::read(path).expect("sample B is there");
     // Its skipped rest and its reserved bytes are zeros in the file.
@@ -101,7 +102,7 @@ fn an_event_whose_bytes_look_like_records() {
     let mut inside = log(112, &[&event(16), &END]);
     inside[96..112].copy_from_slice(&END);
     inside[128..144].copy_from_slice(&[3; 16]);
-    assert_eq!(scrub(&mut inside), Ok(()));
+    assert_eq!(scrub(&mut inside, Little), Ok(()));
     assert_eq!(
         inside[80..96],
         metadata(5, &[16, 0, 0, 0, 9, 9, 9, 9, 9, 9, 9, 9, 0, 0, 0])
@@ -137,8 +138,8 @@ fn rests_of_several_buffers() {
 fn a_bare_header() {
     for size in [0, 63, 64, u64::MAX] {
         let mut log = header(size);
-        assert_eq!(hidden(&log), [part(Kind::Header, 24..32)]);
-        assert_eq!(scrub(&mut log), Ok(()));
+        assert_eq!(hidden(&log, Little), [part(Kind::Header, 24..32)]);
+        assert_eq!(scrub(&mut log, Little), Ok(()));
         assert_eq!(log[..24], header(size)[..24]);
         assert_eq!(log[24..], [0; 8]);
     }
@@ -156,7 +157,7 @@ fn refusals_1_to_4_change_nothing() {
     log[1] = 1;
     refused(&log, 2, 0);
     let mut longest = self::log(16_777_184, &[&END]);
-    assert_eq!(scrub(&mut longest.clone()), Ok(()));
+    assert_eq!(scrub(&mut longest.clone(), Little), Ok(()));
     longest.push(0);
     refused(&longest, 1, 0);
 }
@@ -187,14 +188,23 @@ fn refusals_5_to_8_and_19_change_nothing() {
 fn a_refused_record_and_what_follows_it_have_no_hidden_bytes() {
     let strange = log(112, &[&event(4), &[15; 16], &END]);
     let parts = [part(Kind::CustomEvent, 93..96), part(Kind::Event, 96..100)];
-    assert_eq!(hidden(&strange), [&before_body()[..], &parts].concat());
+    assert_eq!(
+        hidden(&strange, Little),
+        [&before_body()[..], &parts].concat()
+    );
     let other = [header(64), buffer(64, 7, &[&END]), buffer(64, 8, &[&END])].concat();
     let end = [part(Kind::EndOfBuffer, 81..96)];
-    assert_eq!(hidden(&other), [&before_body()[..], &end].concat());
+    assert_eq!(hidden(&other, Little), [&before_body()[..], &end].concat());
     // The header's tests leave the header's own bytes.
-    assert_eq!(hidden(&sample_b()[..127]), [part(Kind::Header, 24..32)]);
-    assert_eq!(hidden(&sample_b()[..30]), [part(Kind::Header, 24..30)]);
-    assert_eq!(hidden(&sample_b()[..24]), []);
+    assert_eq!(
+        hidden(&sample_b()[..127], Little),
+        [part(Kind::Header, 24..32)]
+    );
+    assert_eq!(
+        hidden(&sample_b()[..30], Little),
+        [part(Kind::Header, 24..30)]
+    );
+    assert_eq!(hidden(&sample_b()[..24], Little), []);
 }
 
 #[test]
@@ -219,10 +229,10 @@ fn what_replay_refuses_by_9_to_13_is_scrubbed() {
         (13, log(64 + 2 * call.len(), &[&call, &call, &END])),
     ];
     for (number, mut log) in logs {
-        let answer = replay(&log, &mut [1; TABLE]);
+        let answer = replay(&log, Little, &mut [1; TABLE]);
         assert!(matches!(answer, Answer::Refused { number: found, .. } if found == number));
-        assert_eq!(scrub(&mut log), Ok(()));
+        assert_eq!(scrub(&mut log, Little), Ok(()));
         assert!(!log.contains(&DIRT));
-        assert_eq!(replay(&log, &mut [2; TABLE]), answer);
+        assert_eq!(replay(&log, Little, &mut [2; TABLE]), answer);
     }
 }

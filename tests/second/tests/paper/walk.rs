@@ -4,11 +4,12 @@
 use crate::bytes::{argument, buffer, event, event_marker, header, log, metadata};
 use crate::bytes::{sample_b, DIRT, END, ENTRY, ENTRY_ARGS, EXIT, TAIL_EXIT};
 use second::header::{check, Header};
+use second::order::Order::Little;
 use second::record::Record;
 use second::walk::{self, Outcome, Position, Stage, Step};
 
 fn outcome(log: &[u8]) -> Outcome {
-    walk::walk(log).1
+    walk::walk(log, Little).1
 }
 
 fn refused(number: u8, place: u64) -> Outcome {
@@ -20,7 +21,7 @@ fn sample_b_has_six_records() {
     let log = sample_b();
     assert_eq!(log.len(), 128);
     assert_eq!(
-        check(&log),
+        check(&log, Little),
         Ok(Header {
             constant_tsc: true,
             nonstop_tsc: true,
@@ -28,7 +29,7 @@ fn sample_b_has_six_records() {
             buffer_size: 96,
         })
     );
-    let (items, outcome) = walk::walk(&log);
+    let (items, outcome) = walk::walk(&log, Little);
     assert_eq!(outcome, Outcome::Done);
     let places: Vec<u64> = items.iter().map(|item| item.place).collect();
     assert_eq!(places, [32, 48, 64, 80, 88, 96]);
@@ -59,7 +60,7 @@ fn sample_b_has_six_records() {
 #[test]
 fn positions_of_sample_b() {
     let log = sample_b();
-    let mut position = walk::start(&check(&log).unwrap());
+    let mut position = walk::start(&check(&log, Little).unwrap(), Little);
     let mut stages = Vec::new();
     while let Step::Found { next, .. } = walk::next(&log, position) {
         assert_eq!((next.end, next.size, next.thread), (128, 96, Some(7)));
@@ -82,7 +83,7 @@ fn positions_of_sample_b() {
 #[test]
 fn a_bare_header_passes_whatever_its_size_says() {
     for size in [0, 63, 64, u64::MAX] {
-        let (items, outcome) = walk::walk(&header(size));
+        let (items, outcome) = walk::walk(&header(size), Little);
         assert!(items.is_empty());
         assert_eq!(outcome, Outcome::Done);
     }
@@ -103,18 +104,18 @@ fn lengths() {
 fn header_tests_come_in_order() {
     let mut log = sample_b();
     log[16] = 95;
-    assert_eq!(check(&log), Err(4));
+    assert_eq!(check(&log, Little), Err(4));
     log[3] = 1;
-    assert_eq!(check(&log), Err(3));
+    assert_eq!(check(&log, Little), Err(3));
     log[1] = 1;
-    assert_eq!(check(&log), Err(2));
-    assert_eq!(check(&log[..31]), Err(1));
+    assert_eq!(check(&log, Little), Err(2));
+    assert_eq!(check(&log[..31], Little), Err(1));
 }
 
 #[test]
 fn least_buffer_size() {
     assert_eq!(outcome(&log(64, &[&END])), Outcome::Done);
-    let (items, _) = walk::walk(&log(64, &[&END]));
+    let (items, _) = walk::walk(&log(64, &[&END]), Little);
     assert_eq!(items.len(), 4);
     assert_eq!(outcome(&log(63, &[])), refused(4, 0));
 }
@@ -216,7 +217,7 @@ fn hidden_bytes_cause_no_refusal() {
         for hidden in log.iter_mut().filter(|byte| **byte == DIRT) {
             *hidden = byte;
         }
-        assert_eq!(walk::walk(&log), walk::walk(&sample_b()));
+        assert_eq!(walk::walk(&log, Little), walk::walk(&sample_b(), Little));
     }
 }
 
@@ -224,6 +225,7 @@ fn hidden_bytes_cause_no_refusal() {
 fn a_step_takes_any_position() {
     let log = sample_b();
     let position = Position {
+        order: Little,
         place: 128,
         end: u64::MAX,
         size: u64::MAX,

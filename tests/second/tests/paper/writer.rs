@@ -1,6 +1,7 @@
 //! The record writer: Paper 01, "Writer and comparison", and the bytes of its
 //! samples.
 
+use second::order::Order::Little;
 use second::record::Record;
 use second::writer::{bytes, check, write, LEAST_BAD_EVENT, LEAST_BAD_ID};
 
@@ -11,16 +12,16 @@ fn function(action: u8, id: u32, delta: u32) -> Record {
 #[test]
 fn sample_b() {
     assert_eq!(
-        bytes(&function(0, 5, 10), &[]),
+        bytes(&function(0, 5, 10), Little, &[]),
         [0x50, 0, 0, 0, 0x0A, 0, 0, 0]
     );
     assert_eq!(
-        bytes(&function(1, 5, 30), &[]),
+        bytes(&function(1, 5, 30), Little, &[]),
         [0x52, 0, 0, 0, 0x1E, 0, 0, 0]
     );
     let cpu = Record::NewCpuId { cpu: 0, tsc: 1000 };
     assert_eq!(
-        bytes(&cpu, &[]),
+        bytes(&cpu, Little, &[]),
         [5, 0, 0, 0xE8, 3, 0, 0, 0, 0, 0, 0, 0, 0, 0, 0, 0]
     );
 }
@@ -32,7 +33,7 @@ fn fields_in_the_table_s_order() {
         micros: 0x0C0B_0A09,
     };
     assert_eq!(
-        bytes(&wall, &[]),
+        bytes(&wall, Little, &[]),
         [9, 1, 2, 3, 4, 5, 6, 7, 8, 9, 10, 11, 12, 0, 0, 0]
     );
     let marker = Record::CustomEvent {
@@ -40,7 +41,7 @@ fn fields_in_the_table_s_order() {
         tsc: 0x0807_0605_0403_0201,
     };
     assert_eq!(
-        bytes(&marker, &[0xEE, 0xFF]),
+        bytes(&marker, Little, &[0xEE, 0xFF]),
         [11, 2, 0, 0, 0, 1, 2, 3, 4, 5, 6, 7, 8, 0, 0, 0, 0xEE, 0xFF]
     );
 }
@@ -49,22 +50,30 @@ fn fields_in_the_table_s_order() {
 fn tests_in_order() {
     let mut out = [7; 8];
     assert_eq!(
-        write(&function(4, LEAST_BAD_ID, 0), &[], &mut out[..0]),
+        write(&function(4, LEAST_BAD_ID, 0), Little, &[], &mut out[..0]),
         Err(6)
     );
-    assert_eq!(write(&function(255, 0, 0), &[], &mut out), Err(6));
+    assert_eq!(write(&function(255, 0, 0), Little, &[], &mut out), Err(6));
     assert_eq!(
-        write(&function(3, LEAST_BAD_ID, 0), &[], &mut out[..0]),
+        write(&function(3, LEAST_BAD_ID, 0), Little, &[], &mut out[..0]),
         Err(16)
     );
-    assert_eq!(write(&function(3, u32::MAX, 0), &[], &mut out), Err(16));
     assert_eq!(
-        write(&function(3, LEAST_BAD_ID - 1, 0), &[], &mut out[..7]),
+        write(&function(3, u32::MAX, 0), Little, &[], &mut out),
+        Err(16)
+    );
+    assert_eq!(
+        write(
+            &function(3, LEAST_BAD_ID - 1, 0),
+            Little,
+            &[],
+            &mut out[..7]
+        ),
         Err(15)
     );
     assert_eq!(out, [7; 8]);
     assert_eq!(
-        write(&function(3, LEAST_BAD_ID - 1, 0), &[], &mut out),
+        write(&function(3, LEAST_BAD_ID - 1, 0), Little, &[], &mut out),
         Ok(8)
     );
     assert_eq!(out, [0xF6, 0xFF, 0xFF, 0xFF, 0, 0, 0, 0]);
@@ -74,9 +83,9 @@ fn tests_in_order() {
 fn room_for_an_event() {
     let marker = Record::CustomEvent { size: 0, tsc: 1 };
     let mut out = [7; 20];
-    assert_eq!(write(&marker, &[1, 2, 3], &mut out[..18]), Err(15));
+    assert_eq!(write(&marker, Little, &[1, 2, 3], &mut out[..18]), Err(15));
     assert_eq!(out, [7; 20]);
-    assert_eq!(write(&marker, &[1, 2, 3], &mut out[..19]), Ok(19));
+    assert_eq!(write(&marker, Little, &[1, 2, 3], &mut out[..19]), Ok(19));
     assert_eq!(&out[13..], [0, 0, 0, 1, 2, 3, 7]);
     assert_eq!(check(&marker, LEAST_BAD_EVENT - 1, u64::MAX), Ok(()));
     assert_eq!(check(&marker, LEAST_BAD_EVENT, u64::MAX), Err(15));

@@ -1,6 +1,7 @@
 //! Logs made record by record for the replay, and what it answers.
 
 use crate::bytes;
+use second::order::Order::Little;
 use second::replay::{replay, Answer, TABLE};
 
 /// A log in the making: buffers of one size.
@@ -119,7 +120,7 @@ pub const OLD: u64 = 0xABCD_EF01_2345_6789;
 /// must be, and no further.
 pub fn run(log: &[u8]) -> (Answer, Vec<[u64; 6]>) {
     let mut table = vec![OLD; TABLE + 3];
-    let answer = replay(log, &mut table);
+    let answer = replay(log, Little, &mut table);
     assert_eq!(table[TABLE..], [OLD; 3]);
     let rows = match answer {
         Answer::Report { rows, .. } => rows as usize,
