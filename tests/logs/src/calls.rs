@@ -1,7 +1,7 @@
 //! Logs from a seed that are made for the replay: calls that nest, are
 //! abandoned, carry over from buffer to buffer, and come near to the limits of
-//! Paper 01, "The numbered refusals", 9 to 13. The same kind and seed give the
-//! same log everywhere.
+//! Paper 01, "The numbered refusals", 9 to 13; of either byte order. The same
+//! kind, seed and order give the same log everywhere.
 //!
 //! A kind names what was done to make the log, not what the replay must
 //! answer.
@@ -16,6 +16,7 @@ mod maker;
 mod nesting;
 
 use crate::random::Random;
+use second::order::Order;
 
 pub use length::of_length;
 
@@ -106,37 +107,41 @@ impl Kind {
     }
 }
 
-/// The log of this kind and seed.
-pub fn log(kind: Kind, seed: u64) -> Vec<u8> {
+/// The log of this kind, seed and order.
+pub fn log(kind: Kind, seed: u64, order: Order) -> Vec<u8> {
     let random = &mut Random::new(seed);
     match kind {
-        Kind::Nested => nesting::nested(random),
-        Kind::Recursive => nesting::recursive(random),
-        Kind::Carried => nesting::carried(random),
-        Kind::Events => nesting::events(random),
-        Kind::Deep => limits::deep(random),
-        Kind::HighClock => clocks::high_clock(random),
-        Kind::TickSum => clocks::tick_sum(random),
-        Kind::Backward => clocks::backward(random),
-        Kind::NoEntry => faults::no_entry(random),
-        Kind::TwoFaults => faults::two_faults(random),
-        Kind::Mutated => damaged(random, damage::mutated),
-        Kind::Truncated => damaged(random, damage::truncated),
-        Kind::Ungrammatical => damaged(random, damage::ungrammatical),
-        Kind::Wide => limits::wide(random),
-        Kind::DeepAndWide => limits::deep_and_wide(random),
-        Kind::WideNoEntry => faults::wide_no_entry(random),
-        Kind::Large => length::large(random),
-        Kind::Limit => length::limit(random, seed),
+        Kind::Nested => nesting::nested(random, order),
+        Kind::Recursive => nesting::recursive(random, order),
+        Kind::Carried => nesting::carried(random, order),
+        Kind::Events => nesting::events(random, order),
+        Kind::Deep => limits::deep(random, order),
+        Kind::HighClock => clocks::high_clock(random, order),
+        Kind::TickSum => clocks::tick_sum(random, order),
+        Kind::Backward => clocks::backward(random, order),
+        Kind::NoEntry => faults::no_entry(random, order),
+        Kind::TwoFaults => faults::two_faults(random, order),
+        Kind::Mutated => damaged(random, order, damage::mutated),
+        Kind::Truncated => damaged(random, order, damage::truncated),
+        Kind::Ungrammatical => damaged(random, order, damage::ungrammatical),
+        Kind::Wide => limits::wide(random, order),
+        Kind::DeepAndWide => limits::deep_and_wide(random, order),
+        Kind::WideNoEntry => faults::wide_no_entry(random, order),
+        Kind::Large => length::large(random, order),
+        Kind::Limit => length::limit(random, order, seed),
     }
 }
 
 /// A log of a sound kind, damaged in this way.
-fn damaged(random: &mut Random, damage: fn(&mut Random, Vec<u8>) -> Vec<u8>) -> Vec<u8> {
+fn damaged(
+    random: &mut Random,
+    order: Order,
+    damage: fn(&mut Random, Order, Vec<u8>) -> Vec<u8>,
+) -> Vec<u8> {
     let kind = match random.below(60) {
         0 => Kind::Wide,
         _ => random.one_of(Kind::SOUND),
     };
-    let log = log(kind, random.number());
-    damage(random, log)
+    let log = log(kind, random.number(), order);
+    damage(random, order, log)
 }

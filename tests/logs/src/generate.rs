@@ -1,5 +1,5 @@
-//! Logs from a seed: well-formed ones and damaged ones. The same kind and seed
-//! give the same log everywhere.
+//! Logs from a seed: well-formed ones and damaged ones, of either byte order.
+//! The same kind, seed and order give the same log everywhere.
 //!
 //! A kind names what was done to make the log, not what a reader must answer:
 //! a changed byte may be a hidden one.
@@ -12,8 +12,9 @@ mod records;
 mod sound;
 
 use crate::random::Random;
+use second::order::Order;
 
-pub(crate) use bytes::{encode, header};
+pub(crate) use bytes::{encode, first_byte, header, number, with_action};
 pub use records::any_record;
 
 /// What a log was made as.
@@ -101,23 +102,23 @@ impl Kind {
     }
 }
 
-/// The log of this kind and seed.
-pub fn log(kind: Kind, seed: u64) -> Vec<u8> {
+/// The log of this kind, seed and order.
+pub fn log(kind: Kind, seed: u64, order: Order) -> Vec<u8> {
     let random = &mut Random::new(seed);
     match kind {
-        Kind::WellFormed => sound::well_formed(random),
-        Kind::Bare => sound::bare(random),
-        Kind::Truncated => damage::truncated(random),
-        Kind::Mutated => damage::mutated(random),
-        Kind::OtherThread => damage::other_thread(random),
-        Kind::WrongVersion => damage::wrong_number(random, 0),
-        Kind::WrongType => damage::wrong_number(random, 2),
-        Kind::WrongSize => damage::wrong_size(random),
-        Kind::Garbage => damage::garbage(random),
-        Kind::GarbageBody => damage::garbage_body(random),
-        Kind::Short => damage::short(random),
-        Kind::Large => sound::large(random),
-        Kind::Limit => sound::limit(random, seed),
-        _ => faults::one_fault(random, kind),
+        Kind::WellFormed => sound::well_formed(random, order),
+        Kind::Bare => sound::bare(random, order),
+        Kind::Truncated => damage::truncated(random, order),
+        Kind::Mutated => damage::mutated(random, order),
+        Kind::OtherThread => damage::other_thread(random, order),
+        Kind::WrongVersion => damage::wrong_number(random, order, 0),
+        Kind::WrongType => damage::wrong_number(random, order, 2),
+        Kind::WrongSize => damage::wrong_size(random, order),
+        Kind::Garbage => damage::garbage(random, order),
+        Kind::GarbageBody => damage::garbage_body(random, order),
+        Kind::Short => damage::short(random, order),
+        Kind::Large => sound::large(random, order),
+        Kind::Limit => sound::limit(random, order, seed),
+        _ => faults::one_fault(random, order, kind),
     }
 }

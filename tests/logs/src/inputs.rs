@@ -3,6 +3,7 @@
 
 use crate::calls;
 use crate::generate;
+use second::order::Order;
 use std::path::{Path, PathBuf};
 
 /// What a log was made as.
@@ -20,22 +21,20 @@ impl Kind {
         calls.chain(logs).collect()
     }
 
-    /// The kind and the seed of the log with this index in a run with this
-    /// seed. Two of three are made for the replay.
-    pub fn at(index: u64, seed: u64) -> (Kind, u64) {
+    /// The kind of the log with this index. Two of three are made for the
+    /// replay.
+    fn at(index: u64) -> Kind {
         let (third, part) = (index / 3, index % 3);
-        if part == 2 {
-            let kind = generate::Kind::at(third);
-            return (Kind::Logs(kind), seed.wrapping_add(third));
+        match part {
+            2 => Kind::Logs(generate::Kind::at(third)),
+            _ => Kind::Calls(calls::Kind::at(third * 2 + part)),
         }
-        let own = third * 2 + part;
-        (Kind::Calls(calls::Kind::at(own)), seed.wrapping_add(own))
     }
 
-    pub fn log(self, seed: u64) -> Vec<u8> {
+    pub fn log(self, seed: u64, order: Order) -> Vec<u8> {
         match self {
-            Kind::Calls(kind) => calls::log(kind, seed),
-            Kind::Logs(kind) => generate::log(kind, seed),
+            Kind::Calls(kind) => calls::log(kind, seed, order),
+            Kind::Logs(kind) => generate::log(kind, seed, order),
         }
     }
 
@@ -60,8 +59,48 @@ impl Kind {
     }
 }
 
-/// Every sample log with its name, in the order of their names.
-pub fn samples() -> Result<Vec<(String, Vec<u8>)>, String> {
+/// The index in its half of a run, and the byte order, of the input with this
+/// index: as many inputs of each kind are big-endian as are little-endian.
+pub fn halved(index: u64) -> (u64, Order) {
+    (index / 2, Order::ALL[(index % 2) as usize])
+}
+
+/// A generated log, before it is made.
+pub struct Input {
+    pub kind: Kind,
+    pub seed: u64,
+    pub order: Order,
+}
+
+impl Input {
+    /// The log with this index in a run with this seed.
+    pub fn at(index: u64, seed: u64) -> Input {
+        let (half, order) = halved(index);
+        Input {
+            kind: Kind::at(half),
+            seed: seed.wrapping_add(index),
+            order,
+        }
+    }
+
+    pub fn log(&self) -> Vec<u8> {
+        self.kind.log(self.seed, self.order)
+    }
+
+    pub fn name(&self) -> String {
+        format!("{}, {:?}", self.kind.name(), self.order)
+    }
+}
+
+/// A sample log, and the byte order that its name says it is to be read in.
+pub struct Sample {
+    pub name: String,
+    pub order: Order,
+    pub log: Vec<u8>,
+}
+
+/// Every sample, in the order of their names.
+pub fn samples() -> Result<Vec<Sample>, String> {
     let folder = Path::new(env!("CARGO_MANIFEST_DIR")).join("../../samples");
     let fault = |error: std::io::Error| format!("samples: {error}");
     let mut paths: Vec<PathBuf> = Vec::new();
@@ -75,8 +114,15 @@ pub fn samples() -> Result<Vec<(String, Vec<u8>)>, String> {
     let mut samples = Vec::new();
     for path in paths {
         let log = std::fs::read(&path).map_err(fault)?;
-        let name = path.file_name().unwrap_or_default();
-        samples.push((format!("sample {}", name.to_string_lossy()), log));
+        let file = path.file_stem().unwrap_or_default().to_string_lossy();
+        samples.push(Sample {
+            name: format!("sample {file}"),
+            order: match file.ends_with("-big-endian") {
+                true => Order::Big,
+                false => Order::Little,
+            },
+            log,
+        });
     }
     if samples.is_empty() {
         return Err("samples: no logs".to_string());

@@ -7,3 +7,4 @@ pub mod calls;
 pub mod generate;
 pub mod inputs;
 pub mod random;
+pub mod turn;

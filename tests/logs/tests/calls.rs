@@ -1,6 +1,7 @@
 //! What holds of the logs that are made for the replay.
 
 use logs::calls::{self, Kind};
+use second::order::Order;
 use second::replay::{replay, Answer, TABLE};
 use second::walk::{self, Outcome};
 
@@ -8,19 +9,30 @@ use second::walk::{self, Outcome};
 fn sound_kinds_are_well_formed() {
     let wide = [Kind::Wide, Kind::DeepAndWide, Kind::WideNoEntry];
     for kind in Kind::SOUND.iter().copied().chain(wide) {
-        for seed in 0..200 {
-            let outcome = walk::walk(&calls::log(kind, seed)).1;
-            assert_eq!(outcome, Outcome::Done, "{kind:?}, seed {seed}");
+        for (seed, order) in seeds(200) {
+            let outcome = walk::walk(&calls::log(kind, seed, order), order).1;
+            assert_eq!(outcome, Outcome::Done, "{kind:?}, seed {seed}, {order:?}");
         }
     }
 }
 
-/// Refusals of some logs of a kind, by number; index 0 counts accepted logs.
+/// Seeds, each with both orders.
+fn seeds(seeds: u64) -> impl Iterator<Item = (u64, Order)> {
+    (0..seeds).flat_map(|seed| Order::ALL.map(|order| (seed, order)))
+}
+
+/// Refusals of some logs of a kind, by number, the fewer of both orders; index
+/// 0 counts accepted logs.
 fn refusals(kind: Kind, logs: u64) -> [u64; 20] {
+    let [little, big] = Order::ALL.map(|order| refusals_of(kind, logs, order));
+    std::array::from_fn(|number| little[number].min(big[number]))
+}
+
+fn refusals_of(kind: Kind, logs: u64, order: Order) -> [u64; 20] {
     let mut counts = [0; 20];
     let mut table = vec![0; TABLE];
     for seed in 0..logs {
-        match replay(&calls::log(kind, seed), &mut table) {
+        match replay(&calls::log(kind, seed, order), order, &mut table) {
             Answer::Report { .. } => counts[0] += 1,
             Answer::Refused { number, .. } => counts[number as usize] += 1,
         }
@@ -61,23 +73,31 @@ fn kinds_meet_what_they_are_made_for() {
 
 #[test]
 fn ticks_pass_their_top_at_exits_of_both_kinds() {
-    let mut actions = [0; 4];
-    for seed in 0..400 {
-        let log = calls::log(Kind::TickSum, seed);
-        let answer = replay(&log, &mut vec![0; TABLE]);
+    let mut actions = [[0; 4]; 2];
+    for (seed, order) in seeds(400) {
+        let log = calls::log(Kind::TickSum, seed, order);
+        let answer = replay(&log, order, &mut vec![0; TABLE]);
         if let Answer::Refused { number: 13, place } = answer {
-            actions[usize::from(log[place as usize] >> 1 & 7)] += 1;
+            let first = log[place as usize];
+            let action = match order {
+                Order::Little => first >> 1 & 7,
+                Order::Big => first >> 4,
+            };
+            actions[order as usize][usize::from(action)] += 1;
         }
     }
-    assert!(actions[1] > 20 && actions[2] > 20, "{actions:?}");
+    for actions in actions {
+        assert!(actions[1] > 20 && actions[2] > 20, "{actions:?}");
+    }
 }
 
 #[test]
 fn backward_calls_and_others_are_both_met() {
     let (mut backward, mut others, mut abandoned) = (0, 0, 0);
-    for seed in 0..400 {
+    for (seed, order) in seeds(200) {
         let mut table = vec![0; TABLE];
-        replay(&calls::log(Kind::Backward, seed), &mut table);
+        let log = calls::log(Kind::Backward, seed, order);
+        replay(&log, order, &mut table);
         for row in table.chunks(6) {
             backward += row[3];
             others += row[2] - row[3];
@@ -92,7 +112,7 @@ fn most_logs_are_short() {
     let lengths: Vec<usize> = (0..1000)
         .map(|index| (index, Kind::at(index)))
         .filter(|(_, kind)| *kind != Kind::Limit)
-        .map(|(index, kind)| calls::log(kind, index).len())
+        .map(|(index, kind)| calls::log(kind, index, Order::Big).len())
         .collect();
     let short = lengths.iter().filter(|length| **length <= 8192);
     assert!(short.count() > 800);
@@ -101,22 +121,24 @@ fn most_logs_are_short() {
 
 #[test]
 fn lengths_at_the_limit() {
-    let lengths = [0, 1, 2, 3, 4].map(|seed| calls::log(Kind::Limit, seed).len());
+    let lengths = [0, 1, 2, 3, 4].map(|seed| calls::log(Kind::Limit, seed, Order::Big).len());
     let below = [16_773_152, 16_777_152];
     let expected = [16_777_216, 16_777_216, 16_777_217, below[0], below[1]];
     assert_eq!(lengths, expected);
-    let outcome = walk::walk(&calls::log(Kind::Limit, 8)).1;
     let (number, place) = (8, 16_773_152 - 4096);
-    assert_eq!(outcome, Outcome::Refused { number, place });
+    for order in Order::ALL {
+        let outcome = walk::walk(&calls::log(Kind::Limit, 8, order), order).1;
+        assert_eq!(outcome, Outcome::Refused { number, place });
+    }
 }
 
 #[test]
 fn logs_of_a_length_have_it() {
     for length in [112, 1000, 65_535, 65_536, 65_537] {
-        for seed in 0..12 {
-            let log = calls::of_length(length, seed);
+        for (seed, order) in seeds(12) {
+            let log = calls::of_length(length, seed, order);
             assert_eq!(log.len(), length);
-            assert_eq!(walk::walk(&log).1, Outcome::Done);
+            assert_eq!(walk::walk(&log, order).1, Outcome::Done);
         }
     }
 }

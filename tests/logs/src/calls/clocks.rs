@@ -3,6 +3,7 @@
 use super::maker::Maker;
 use super::nesting::any_size;
 use crate::random::Random;
+use second::order::Order;
 
 /// A reading from which a delta can just reach 2^64 - 1.
 fn high_reading(random: &mut Random) -> u64 {
@@ -16,9 +17,9 @@ fn high_reading(random: &mut Random) -> u64 {
     }
 }
 
-pub fn high_clock(random: &mut Random) -> Vec<u8> {
+pub fn high_clock(random: &mut Random, order: Order) -> Vec<u8> {
     let size = any_size(random);
-    let mut maker = Maker::with_ids(random, size, 4);
+    let mut maker = Maker::with_ids(random, order, size, 4);
     for _ in 0..1 + maker.random.below(12) {
         let reading = high_reading(maker.random);
         maker.set_clock(reading);
@@ -52,9 +53,9 @@ pub fn past_the_top(maker: &mut Maker) -> u32 {
     below as u32 + 1 + maker.random.below(3) as u32
 }
 
-pub fn tick_sum(random: &mut Random) -> Vec<u8> {
+pub fn tick_sum(random: &mut Random, order: Order) -> Vec<u8> {
     let size = any_size(random);
-    let mut maker = Maker::with_ids(random, size, 4);
+    let mut maker = Maker::with_ids(random, order, size, 4);
     let id = maker.ids[0];
     // From 2^64 - 3 to 2^64 + 2.
     let mut left = u128::from(u64::MAX) - 2 + u128::from(maker.random.below(6));
@@ -107,9 +108,9 @@ fn beside_sum(maker: &mut Maker) {
     }
 }
 
-pub fn backward(random: &mut Random) -> Vec<u8> {
+pub fn backward(random: &mut Random, order: Order) -> Vec<u8> {
     let size = any_size(random);
-    let mut maker = Maker::with_ids(random, size, 3);
+    let mut maker = Maker::with_ids(random, order, size, 3);
     let base = maker
         .random
         .one_of(&[2, 1000, 1 << 32, 1 << 63, u64::MAX - 50]);

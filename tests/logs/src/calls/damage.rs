@@ -1,13 +1,15 @@
 //! Logs damaged: bytes changed, a log cut, a record against the grammar.
 
+use crate::generate::{first_byte, number, with_action};
 use crate::random::Random;
 use second::header;
+use second::order::Order;
 use second::record::Record;
 use second::walk::{self, Item};
 
 /// A byte or two changed: anywhere, or near a record's first byte.
-pub fn mutated(random: &mut Random, mut log: Vec<u8>) -> Vec<u8> {
-    let items = walk::walk(&log).0;
+pub fn mutated(random: &mut Random, order: Order, mut log: Vec<u8>) -> Vec<u8> {
+    let items = walk::walk(&log, order).0;
     for _ in 0..1 + random.index(2) {
         let near = items[random.index(items.len())].place as usize;
         let place = match random.below(3) {
@@ -16,7 +18,7 @@ pub fn mutated(random: &mut Random, mut log: Vec<u8>) -> Vec<u8> {
         };
         log[place] = match random.below(3) {
             0 => log[place] ^ (1 << random.below(8)),
-            1 => random.below(16) as u8,
+            1 => first_byte(order, random.below(16) as u8),
             _ => random.number() as u8,
         };
     }
@@ -25,10 +27,10 @@ pub fn mutated(random: &mut Random, mut log: Vec<u8>) -> Vec<u8> {
 
 /// Cut at any byte or behind a record, mostly with a buffer_size that fits the
 /// rest.
-pub fn truncated(random: &mut Random, mut log: Vec<u8>) -> Vec<u8> {
+pub fn truncated(random: &mut Random, order: Order, mut log: Vec<u8>) -> Vec<u8> {
     let length = match random.below(3) {
         0 => {
-            let items = walk::walk(&log).0;
+            let items = walk::walk(&log, order).0;
             items[random.index(items.len())].next_place as usize
         }
         _ => random.index(log.len()),
@@ -36,14 +38,14 @@ pub fn truncated(random: &mut Random, mut log: Vec<u8>) -> Vec<u8> {
     log.truncate(length);
     if log.len() >= header::SIZE && !random.once_in(4) {
         let following = (log.len() - header::SIZE) as u64;
-        log[16..24].copy_from_slice(&following.to_le_bytes());
+        log[16..24].copy_from_slice(&number(order, following, 8));
     }
     log
 }
 
 /// A record changed, mostly against the grammar.
-pub fn ungrammatical(random: &mut Random, mut log: Vec<u8>) -> Vec<u8> {
-    let items = walk::walk(&log).0;
+pub fn ungrammatical(random: &mut Random, order: Order, mut log: Vec<u8>) -> Vec<u8> {
+    let items = walk::walk(&log, order).0;
     let change = random.below(8);
     let place = match change {
         0 => place_of(random, &items, |it| matches!(it, Record::NewBuffer { .. })),
@@ -56,13 +58,13 @@ pub fn ungrammatical(random: &mut Random, mut log: Vec<u8>) -> Vec<u8> {
     match change {
         0 => log[place + 1 + random.index(2)] ^= 1 << random.below(8),
         1 => log[place + 1 + random.index(4)] = random.number() as u8,
-        2 => log[place] = random.one_of(&[0, 2, 5, 7, 11, 13]),
-        3 => log[place] = (7 + random.below(121) as u8) * 2 + 1,
-        4 => log[place] = (log[place] & 0xF0) | ((4 + random.below(4) as u8) << 1),
-        5 => log[place] = (log[place] & 0xF0) | ((random.below(4) as u8) << 1),
+        2 => log[place] = first_byte(order, random.one_of(&[0, 2, 5, 7, 11, 13])),
+        3 => log[place] = first_byte(order, (7 + random.below(121) as u8) * 2 + 1),
+        4 => log[place] = with_action(order, log[place], 4 + random.below(4) as u8),
+        5 => log[place] = with_action(order, log[place], random.below(4) as u8),
         // NewBuffer, EndOfBuffer, WallTimeMarker, CallArgument, or any kind.
-        6 => log[place] = random.one_of(&[1, 3, 9, 13]),
-        _ => log[place] = random.below(7) as u8 * 2 + 1,
+        6 => log[place] = first_byte(order, random.one_of(&[1, 3, 9, 13])),
+        _ => log[place] = first_byte(order, random.below(7) as u8 * 2 + 1),
     }
     log
 }

@@ -4,8 +4,9 @@ use super::clocks::past_the_top;
 use super::limits::wide_maker;
 use super::maker::{Maker, LEAST};
 use super::nesting::any_size;
-use crate::generate::encode;
+use crate::generate::{encode, first_byte};
 use crate::random::Random;
+use second::order::Order;
 use second::record::Record;
 use second::replay::{DEEPEST, ROWS};
 
@@ -24,10 +25,10 @@ fn not_open(maker: &mut Maker) -> u32 {
     id
 }
 
-pub fn no_entry(random: &mut Random) -> Vec<u8> {
+pub fn no_entry(random: &mut Random, order: Order) -> Vec<u8> {
     let size = any_size(random);
     let ids = 1 + random.index(8);
-    let mut maker = Maker::with_ids(random, size, ids);
+    let mut maker = Maker::with_ids(random, order, size, ids);
     for _ in 0..maker.random.below(60) {
         maker.act(20);
     }
@@ -42,21 +43,21 @@ pub fn no_entry(random: &mut Random) -> Vec<u8> {
     maker.finish()
 }
 
-pub fn wide_no_entry(random: &mut Random) -> Vec<u8> {
+pub fn wide_no_entry(random: &mut Random, order: Order) -> Vec<u8> {
     let ids = ROWS - random.index(3);
     let depth = random.one_of(&[0, 1, 20, DEEPEST - 1, DEEPEST]);
-    let mut maker = wide_maker(random, ids, depth);
+    let mut maker = wide_maker(random, order, ids, depth);
     let (id, delta) = (not_open(&mut maker), maker.delta());
     maker.leave(id, delta);
     maker.finish()
 }
 
 /// Two faults at one record; one of them is mostly 9.
-pub fn two_faults(random: &mut Random) -> Vec<u8> {
+pub fn two_faults(random: &mut Random, order: Order) -> Vec<u8> {
     match random.below(24) {
         0 => {
             let depth = DEEPEST - random.index(2);
-            let mut maker = wide_maker(random, ROWS, depth);
+            let mut maker = wide_maker(random, order, ROWS, depth);
             let delta = past_the_top(&mut maker);
             let id = maker.fresh();
             maker.enter(id, delta);
@@ -64,23 +65,23 @@ pub fn two_faults(random: &mut Random) -> Vec<u8> {
         }
         1..=6 => {
             let size = any_size(random);
-            let mut maker = Maker::with_ids(random, size, 3);
+            let mut maker = Maker::with_ids(random, order, size, 3);
             maker.climb(DEEPEST);
             let delta = past_the_top(&mut maker);
             let id = maker.known();
             maker.enter(id, delta);
             maker.finish()
         }
-        7..=12 => exit_faults(random),
-        13..=16 => record_faults(random),
-        _ => leading_faults(random),
+        7..=12 => exit_faults(random, order),
+        13..=16 => record_faults(random, order),
+        _ => leading_faults(random, order),
     }
 }
 
 /// 9 with 10, or an exit that finds no open call of an id with the most ticks.
-fn exit_faults(random: &mut Random) -> Vec<u8> {
+fn exit_faults(random: &mut Random, order: Order) -> Vec<u8> {
     let size = any_size(random);
-    let mut maker = Maker::with_ids(random, size, 3);
+    let mut maker = Maker::with_ids(random, order, size, 3);
     let id = maker.ids[0];
     maker.measured(id, u64::MAX);
     if maker.random.once_in(2) {
@@ -96,8 +97,8 @@ fn exit_faults(random: &mut Random) -> Vec<u8> {
 
 /// A function record past 2^64 - 1 that also has an unknown action or runs
 /// past its buffer's end.
-fn record_faults(random: &mut Random) -> Vec<u8> {
-    let mut maker = Maker::with_ids(random, None, 3);
+fn record_faults(random: &mut Random, order: Order) -> Vec<u8> {
+    let mut maker = Maker::with_ids(random, order, None, 3);
     maker.enter_known();
     let delta = past_the_top(&mut maker);
     let id = maker.known();
@@ -105,7 +106,7 @@ fn record_faults(random: &mut Random) -> Vec<u8> {
     maker.function(action, id, delta);
     let at = maker.log.len() - 8;
     if maker.random.once_in(2) {
-        maker.log[at] |= 8;
+        maker.log[at] |= first_byte(order, 8);
         return maker.finish();
     }
     maker.log.truncate(at + 1 + maker.random.index(7));
@@ -113,9 +114,9 @@ fn record_faults(random: &mut Random) -> Vec<u8> {
 }
 
 /// A function record past 2^64 - 1 in place of a leading one.
-fn leading_faults(random: &mut Random) -> Vec<u8> {
+fn leading_faults(random: &mut Random, order: Order) -> Vec<u8> {
     let size = Some(LEAST + random.index(100));
-    let mut maker = Maker::with_ids(random, size, 3);
+    let mut maker = Maker::with_ids(random, order, size, 3);
     maker.enter_known();
     let delta = past_the_top(&mut maker);
     maker.turn();
@@ -124,7 +125,7 @@ fn leading_faults(random: &mut Random) -> Vec<u8> {
         id: maker.known(),
         delta,
     };
-    let bytes = encode(maker.random, record);
+    let bytes = encode(maker.random, order, record);
     let at = maker.start + 16 * maker.random.index(3);
     maker.log[at..at + 8].copy_from_slice(&bytes);
     maker.finish()

@@ -3,12 +3,13 @@
 use super::maker::Maker;
 use super::nesting::any_size;
 use crate::random::Random;
+use second::order::Order;
 use second::replay::{DEEPEST, ROWS};
 
-pub fn deep(random: &mut Random) -> Vec<u8> {
+pub fn deep(random: &mut Random, order: Order) -> Vec<u8> {
     let size = any_size(random);
     let ids = 1 + random.index(20);
-    let mut maker = Maker::with_ids(random, size, ids);
+    let mut maker = Maker::with_ids(random, order, size, ids);
     let depth = DEEPEST - 2 + maker.random.index(4);
     maker.climb(depth);
     for _ in 0..maker.random.below(8) {
@@ -37,9 +38,9 @@ fn any_depth(random: &mut Random) -> usize {
     random.one_of(&[1, 2, any, DEEPEST - 1, DEEPEST])
 }
 
-pub fn wide(random: &mut Random) -> Vec<u8> {
+pub fn wide(random: &mut Random, order: Order) -> Vec<u8> {
     let size = roomy_size(random);
-    let mut maker = Maker::new(random, size);
+    let mut maker = Maker::new(random, order, size);
     let deepest = any_depth(maker.random);
     let ids = ROWS - 4 + maker.random.index(7);
     maker.widen(ids, deepest);
@@ -54,10 +55,10 @@ pub fn wide(random: &mut Random) -> Vec<u8> {
 }
 
 /// A maker with this many ids, more than 256, and this many open calls.
-pub fn wide_maker(random: &mut Random, ids: usize, depth: usize) -> Maker<'_> {
+pub fn wide_maker(random: &mut Random, order: Order, ids: usize, depth: usize) -> Maker<'_> {
     let size = roomy_size(random);
     let deepest = any_depth(random).min(DEEPEST - 1);
-    let mut maker = Maker::new(random, size);
+    let mut maker = Maker::new(random, order, size);
     let before = ids - maker.random.index(depth + 1);
     maker.widen(before, deepest);
     while !maker.stack.is_empty() {
@@ -75,10 +76,10 @@ pub fn wide_maker(random: &mut Random, ids: usize, depth: usize) -> Maker<'_> {
     maker
 }
 
-pub fn deep_and_wide(random: &mut Random) -> Vec<u8> {
+pub fn deep_and_wide(random: &mut Random, order: Order) -> Vec<u8> {
     let ids = ROWS - random.index(2);
     let depth = DEEPEST - random.index(2);
-    let mut maker = wide_maker(random, ids, depth);
+    let mut maker = wide_maker(random, order, ids, depth);
     for _ in 0..maker.random.below(6) {
         match maker.random.below(6) {
             0 => maker.leave_open(),

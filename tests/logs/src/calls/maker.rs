@@ -1,9 +1,10 @@
 //! A log in the making: records are put behind one another, and buffers are
 //! closed and opened where they must be.
 
-use crate::generate::{self, encode};
+use crate::generate::{self, encode, number};
 use crate::random::Random;
 use second::header;
+use second::order::Order;
 use second::record::{Record, ENTRY_ARGS};
 
 /// The least buffer that has room for any body record: the leading records,
@@ -16,6 +17,7 @@ const IDS: u32 = 1 << 28;
 /// A log in the making, with a view of what a replay would hold behind it.
 pub struct Maker<'a> {
     pub random: &'a mut Random,
+    order: Order,
     pub log: Vec<u8>,
     /// The size of each buffer; none where one buffer takes all records.
     size: Option<usize>,
@@ -36,13 +38,14 @@ pub struct Maker<'a> {
 }
 
 impl<'a> Maker<'a> {
-    pub fn new(random: &'a mut Random, size: Option<usize>) -> Maker<'a> {
+    pub fn new(random: &'a mut Random, order: Order, size: Option<usize>) -> Maker<'a> {
         let (any, any_odd) = (random.number() as u32, random.number() as u32 | 1);
         let last = random.one_of(&[0, IDS - 1, IDS - 2, IDS - 700, any]);
         // An odd step meets every id before it meets one again.
         let step = random.one_of(&[1, IDS - 1, 17, any_odd]);
         let mut maker = Maker {
-            log: generate::header(random, 0),
+            order,
+            log: generate::header(random, order, 0),
             size,
             start: 0,
             thread: random.number() as u16,
@@ -59,8 +62,13 @@ impl<'a> Maker<'a> {
     }
 
     /// The same with this many ids to choose from.
-    pub fn with_ids(random: &'a mut Random, size: Option<usize>, ids: usize) -> Maker<'a> {
-        let mut maker = Maker::new(random, size);
+    pub fn with_ids(
+        random: &'a mut Random,
+        order: Order,
+        size: Option<usize>,
+        ids: usize,
+    ) -> Maker<'a> {
+        let mut maker = Maker::new(random, order, size);
         for _ in 0..ids {
             maker.fresh();
         }
@@ -76,7 +84,7 @@ impl<'a> Maker<'a> {
 
     /// A record, in a next buffer where this one has no room for it.
     fn put(&mut self, record: Record) {
-        let bytes = encode(self.random, record);
+        let bytes = encode(self.random, self.order, record);
         if self.room() < bytes.len() + 16 {
             self.turn();
         }
@@ -103,7 +111,7 @@ impl<'a> Maker<'a> {
             self.new_cpu(),
         ];
         for record in leading {
-            let bytes = encode(self.random, record);
+            let bytes = encode(self.random, self.order, record);
             self.log.extend(bytes);
         }
         self.run = false;
@@ -119,7 +127,7 @@ impl<'a> Maker<'a> {
 
     /// EndOfBuffer and the skipped rest.
     fn close(&mut self) {
-        let end = encode(self.random, Record::EndOfBuffer);
+        let end = encode(self.random, self.order, Record::EndOfBuffer);
         self.log.extend(end);
         let rest = match self.size {
             Some(_) => self.room(),
@@ -163,7 +171,7 @@ impl<'a> Maker<'a> {
     pub fn cut(mut self) -> Vec<u8> {
         let following = self.log.len() - header::SIZE;
         let size = self.size.unwrap_or(following) as u64;
-        self.log[16..24].copy_from_slice(&size.to_le_bytes());
+        self.log[16..24].copy_from_slice(&number(self.order, size, 8));
         self.log
     }
 

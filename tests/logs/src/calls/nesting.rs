@@ -2,6 +2,7 @@
 
 use super::maker::{Maker, LEAST};
 use crate::random::Random;
+use second::order::Order;
 use second::record::ENTRY_ARGS;
 
 /// A buffer size for a log of a few KiB.
@@ -14,11 +15,11 @@ pub fn any_size(random: &mut Random) -> Option<usize> {
     }
 }
 
-pub fn nested(random: &mut Random) -> Vec<u8> {
+pub fn nested(random: &mut Random, order: Order) -> Vec<u8> {
     let size = any_size(random);
     let ids = 1 + random.index(12);
     let deepest = 2 + random.index(30);
-    let mut maker = Maker::with_ids(random, size, ids);
+    let mut maker = Maker::with_ids(random, order, size, ids);
     maker.drift = 1000;
     for _ in 0..maker.random.below(160) {
         maker.act(deepest);
@@ -26,10 +27,10 @@ pub fn nested(random: &mut Random) -> Vec<u8> {
     maker.finish()
 }
 
-pub fn recursive(random: &mut Random) -> Vec<u8> {
+pub fn recursive(random: &mut Random, order: Order) -> Vec<u8> {
     let size = any_size(random);
     let ids = 1 + random.index(3);
-    let mut maker = Maker::with_ids(random, size, ids);
+    let mut maker = Maker::with_ids(random, order, size, ids);
     for _ in 0..1 + maker.random.below(4) {
         let depth = maker.random.index(50);
         maker.climb(depth);
@@ -40,10 +41,10 @@ pub fn recursive(random: &mut Random) -> Vec<u8> {
     maker.finish()
 }
 
-pub fn carried(random: &mut Random) -> Vec<u8> {
+pub fn carried(random: &mut Random, order: Order) -> Vec<u8> {
     let size = Some(LEAST + random.index(40));
     let ids = 1 + random.index(6);
-    let mut maker = Maker::with_ids(random, size, ids);
+    let mut maker = Maker::with_ids(random, order, size, ids);
     maker.drift = maker.random.one_of(&[0, 1, 100]);
     for _ in 0..maker.random.below(90) {
         maker.act(60);
@@ -51,10 +52,10 @@ pub fn carried(random: &mut Random) -> Vec<u8> {
     maker.finish()
 }
 
-pub fn events(random: &mut Random) -> Vec<u8> {
+pub fn events(random: &mut Random, order: Order) -> Vec<u8> {
     let size = any_size(random);
     let ids = 1 + random.index(5);
-    let mut maker = Maker::with_ids(random, size, ids);
+    let mut maker = Maker::with_ids(random, order, size, ids);
     for _ in 0..maker.random.below(40) {
         match maker.random.below(4) {
             0 => maker.event(),

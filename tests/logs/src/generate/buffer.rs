@@ -3,11 +3,13 @@
 use super::bytes::encode;
 use super::records::{any_record, function, leading_records};
 use crate::random::Random;
+use second::order::Order;
 use second::record::{Record, ENTRY_ARGS};
 
 /// A buffer in the making.
 pub struct Buffer<'a> {
     pub random: &'a mut Random,
+    pub order: Order,
     size: usize,
     pub bytes: Vec<u8>,
     /// Whether a CallArgument may stand next.
@@ -15,9 +17,10 @@ pub struct Buffer<'a> {
 }
 
 impl<'a> Buffer<'a> {
-    pub fn new(random: &'a mut Random, size: usize) -> Buffer<'a> {
+    pub fn new(random: &'a mut Random, order: Order, size: usize) -> Buffer<'a> {
         Buffer {
             random,
+            order,
             size,
             bytes: Vec::new(),
             run: false,
@@ -29,7 +32,7 @@ impl<'a> Buffer<'a> {
     }
 
     pub fn put(&mut self, record: Record) {
-        let bytes = encode(self.random, record);
+        let bytes = encode(self.random, self.order, record);
         self.bytes.extend(bytes);
         self.run = match record {
             Record::Function { action, .. } => action == ENTRY_ARGS,

@@ -1,23 +1,24 @@
 //! One fault in an otherwise well-formed log.
 
 use super::buffer::Buffer;
-use super::bytes::{any_bytes, header};
+use super::bytes::{any_bytes, first_byte, header};
 use super::records::{any_record, function, leading_records};
 use super::sound::{amount, good_buffer, plan, Plan};
 use super::Kind;
 use crate::random::Random;
+use second::order::Order;
 use second::record::Record;
 
 /// A log with the fault of its kind in one of its buffers.
-pub fn one_fault(random: &mut Random, kind: Kind) -> Vec<u8> {
+pub fn one_fault(random: &mut Random, order: Order, kind: Kind) -> Vec<u8> {
     let plan = plan(random, 128, 1);
     let at = random.index(plan.buffers);
-    let mut log = header(random, plan.size as u64);
+    let mut log = header(random, order, plan.size as u64);
     for index in 0..plan.buffers {
         let buffer = if index == at {
-            faulty_buffer(random, kind, &plan)
+            faulty_buffer(random, order, kind, &plan)
         } else {
-            good_buffer(random, plan.size, plan.thread)
+            good_buffer(random, order, plan.size, plan.thread)
         };
         log.extend(buffer);
     }
@@ -27,9 +28,9 @@ pub fn one_fault(random: &mut Random, kind: Kind) -> Vec<u8> {
 /// The room that a fault needs behind the body before it.
 const FAULT: usize = 48;
 
-fn faulty_buffer(random: &mut Random, kind: Kind, plan: &Plan) -> Vec<u8> {
+fn faulty_buffer(random: &mut Random, order: Order, kind: Kind, plan: &Plan) -> Vec<u8> {
     let most = amount(random);
-    let mut buffer = Buffer::new(random, plan.size);
+    let mut buffer = Buffer::new(random, order, plan.size);
     if kind == Kind::LeadingFault {
         leading_fault(&mut buffer, plan.thread);
     } else {
@@ -94,15 +95,15 @@ fn loose_argument(buffer: &mut Buffer) {
     buffer.put(Record::CallArgument { argument });
 }
 
-/// A record with an unknown action (low bit 0) or kind (low bit 1); at times
-/// with only a few bytes left for it.
-fn strange(buffer: &mut Buffer, low_bit: u8) {
+/// A record with an unknown action (0) or kind (1); at times with only a few
+/// bytes left for it.
+fn strange(buffer: &mut Buffer, family: u8) {
     if buffer.random.once_in(3) {
         let left = 1 + buffer.random.index(16);
         buffer.pad(left);
     }
     let mut bytes = buffer.random.bytes(16);
-    bytes[0] = if low_bit == 0 {
+    let first = if family == 0 {
         (bytes[0] & 0xF0) | ((4 + buffer.random.below(4) as u8) << 1)
     } else {
         let kind = match buffer.random.below(3) {
@@ -111,6 +112,7 @@ fn strange(buffer: &mut Buffer, low_bit: u8) {
         };
         (kind << 1) | 1
     };
+    bytes[0] = first_byte(buffer.order, first);
     buffer.bytes.extend(bytes);
 }
 
@@ -136,7 +138,7 @@ fn event_past_end(buffer: &mut Buffer) {
         _ => room.saturating_add(buffer.random.number() as u32),
     };
     buffer.put(Record::CustomEvent { size, tsc: 1 });
-    let bytes = any_bytes(buffer.random, buffer.room());
+    let bytes = any_bytes(buffer.random, buffer.order, buffer.room());
     buffer.bytes.extend(bytes);
 }
 
