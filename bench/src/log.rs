@@ -2,6 +2,8 @@
 
 use crate::maker::made;
 use crate::{Fallible, MIB, SIZES};
+use logs::turn::turned;
+use second::order::Order;
 use std::env;
 use std::fs;
 use std::path::{Path, PathBuf};
@@ -41,10 +43,12 @@ impl Kind {
     }
 }
 
-/// A log in memory and in a file.
+/// A little-endian log in memory and in a file.
 pub struct Log {
     pub mib: usize,
     pub bytes: Vec<u8>,
+    /// The same log in its big-endian form.
+    pub turned: Vec<u8>,
     pub path: PathBuf,
 }
 
@@ -55,7 +59,13 @@ impl Log {
             let bytes = made(kind, mib * MIB);
             let path = folder.0.join(format!("{kind:?}-{mib}.fdr"));
             fs::write(&path, &bytes).map_err(|error| named(&path, error))?;
-            Ok(Log { mib, bytes, path })
+            let turned = turned(&bytes, Order::Little);
+            Ok(Log {
+                mib,
+                bytes,
+                turned,
+                path,
+            })
         };
         SIZES.into_iter().map(make).collect()
     }

@@ -4,9 +4,10 @@ use crate::log::{Folder, Kind, Log};
 use crate::measure::{medians, Cost, Input};
 use crate::{Fallible, MIB};
 
-/// Names of programs: the proved one, whose times are the unit, the second, and
-/// the limit.
+/// Names of programs: the proved one, whose times are the unit, the same on the
+/// log in its big-endian form, the second, and the limit.
 pub const TOWERCLOAK: &str = "towercloak";
+pub const BIG_ENDIAN: &str = "towercloak, big-endian";
 pub const SECOND: &str = "second";
 pub const LIMIT: &str = "limit";
 

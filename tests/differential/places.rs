@@ -1,8 +1,10 @@
 //! Places, ends and positions that no walk need have reached: at an edge, near
 //! to a record, or far away.
 
+use harness::order;
 use harness::state::{At, NO_THREAD};
 use logs::random::Random;
+use second::order::Order;
 
 /// A record met on a walk.
 #[derive(Clone, Copy)]
@@ -23,6 +25,7 @@ pub fn near(random: &mut Random, met: &[Met], length: u64) -> Met {
     let end = place + random.below(length - place + 1);
     Met {
         at: At {
+            order: 0,
             place,
             end,
             size: end - place,
@@ -52,8 +55,8 @@ pub fn odd(random: &mut Random, near: u64, length: u64) -> u64 {
     }
 }
 
-/// A position near to this record.
-pub fn position(random: &mut Random, near: &Met, log: &[u8]) -> At {
+/// A position near to this record, mostly with the log's own order.
+pub fn position(random: &mut Random, near: &Met, log: &[u8], order: Order) -> At {
     let length = log.len() as u64;
     let place = match random.below(3) {
         0 => odd(random, near.at.place, length),
@@ -75,21 +78,26 @@ pub fn position(random: &mut Random, near: &Met, log: &[u8]) -> At {
         2..=5 => near.at.stage,
         _ => random.below(5),
     };
+    let order = match random.once_in(8) {
+        true => order.other(),
+        false => order,
+    };
     At {
+        order: order::named(random, order),
         place,
         end,
         size,
         stage,
-        thread: thread(random, log, place),
+        thread: thread(random, log, order, place),
     }
 }
 
 /// Any thread, none, or the one that a NewBuffer at the place names.
-fn thread(random: &mut Random, log: &[u8], place: u64) -> u64 {
+fn thread(random: &mut Random, log: &[u8], order: Order, place: u64) -> u64 {
     let named = usize::try_from(place)
         .ok()
         .and_then(|place| log.get(place..)?.get(1..3))
-        .map_or(0, |bytes| u64::from(bytes[0]) | u64::from(bytes[1]) << 8);
+        .map_or(0, |bytes| order.number(bytes));
     match random.below(8) {
         0 => random.below(NO_THREAD),
         1 => NO_THREAD + named,

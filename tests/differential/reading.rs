@@ -1,14 +1,20 @@
 //! One log through both sides: the header's tests, the walk, and the record
-//! reader and single steps at places of all sorts.
+//! reader and single steps at places of all sorts; and the header's tests and
+//! the walk of the same log in the other byte order.
 
-use crate::counts::{Counts, ANSWERS, EVENTS, HEADER, ODD_STEP, OVER, READER, WALK, WALKED};
+use crate::counts::{Counts, HEADER, ODD_STEP, READER, WALK};
+use crate::counts::{ANSWERS, EVENTS, OVER, TURNED, WALKED};
 use crate::places::{self, Met};
 use harness::answer;
+use harness::order;
 use harness::proved;
 use harness::state::At;
 use logs::random::Random;
+use logs::turn::turned;
 use second::header::{self, Header};
+use second::order::Order;
 use second::reader;
+use second::record::Record;
 use second::walk::{self, Step};
 
 /// Places of records at which the reader is tried, at most.
@@ -19,12 +25,33 @@ const TRIED_EVENTS: usize = 4;
 const TRIES: usize = 12;
 
 pub struct Reading<'a> {
-    pub log: &'a [u8],
-    pub random: Random,
-    pub counts: &'a mut Counts,
+    log: &'a [u8],
+    /// The same log in the other order.
+    turned: Vec<u8>,
+    order: Order,
+    /// The numbers that name the order, and the other one.
+    named: [u32; 2],
+    random: Random,
+    counts: &'a mut Counts,
 }
 
-impl Reading<'_> {
+impl<'a> Reading<'a> {
+    pub fn new(
+        log: &'a [u8],
+        order: Order,
+        mut random: Random,
+        counts: &'a mut Counts,
+    ) -> Reading<'a> {
+        Reading {
+            log,
+            turned: turned(log, order),
+            order,
+            named: [order, order.other()].map(|order| order::named(&mut random, order)),
+            random,
+            counts,
+        }
+    }
+
     /// Every comparison for this log; the text tells of a difference.
     pub fn run(&mut self) -> Result<(), String> {
         let met = match self.header()? {
@@ -51,33 +78,38 @@ impl Reading<'_> {
         list: &[u64],
         ask: impl Fn(u64) -> u64,
     ) -> Result<(), String> {
-        self.counts.met.count(ANSWERS, 0);
+        self.counts.met(ANSWERS, self.order, 1);
         answer::same(list, answer::all(list), ask).map_err(|text| format!("{}: {text}", name()))
     }
 
+    /// The header's tests, which the log in the other order passes or fails
+    /// alike.
     fn header(&mut self) -> Result<Result<Header, u8>, String> {
-        let (log, answer) = (self.log, header::check(self.log));
+        let ([own, other], log) = (self.named, self.log);
+        let answer = header::check(log, self.order);
         let list = answer::header(&answer);
-        self.same(
-            || "header".to_string(),
-            &list,
-            |which| proved::header(log, which),
-        )?;
-        self.counts.refusals.count(HEADER, list[0] as usize);
+        let name = || "header".to_string();
+        self.same(name, &list, |which| proved::header(log, own, which))?;
+        let turned = std::mem::take(&mut self.turned);
+        let name = || "header, turned".to_string();
+        self.same(name, &list, |which| proved::header(&turned, other, which))?;
+        self.turned = turned;
+        self.counts.answered(HEADER, self.order, list[0] as usize);
         Ok(answer)
     }
 
     /// The walk from the start, step by step.
     fn walk(&mut self, header: &Header) -> Result<Vec<Met>, String> {
         let mut met = Vec::new();
-        let mut at = At::from(&walk::start(header));
+        let mut at = At::from(&walk::start(header, self.order));
         loop {
             let step = self.step(&at)?;
+            self.turned_step(&at, &step)?;
             let Step::Found { record, next } = step else {
-                self.counts.refusals.count(WALK, refusal(&step));
+                self.counts.answered(WALK, self.order, refusal(&step));
                 return Ok(met);
             };
-            self.counts.met.count(WALKED, 0);
+            self.counts.met(WALKED, self.order, 1);
             met.push(Met {
                 at,
                 end: next.end,
@@ -96,32 +128,61 @@ impl Reading<'_> {
         Ok(step)
     }
 
+    /// The step from the same position of the log in the other order: the same
+    /// but for the order, and for an argument, whose bytes are hidden and so
+    /// the same, and are read in the other order.
+    fn turned_step(&mut self, at: &At, step: &Step) -> Result<(), String> {
+        let at = At {
+            order: self.named[1],
+            ..*at
+        };
+        let mut step = *step;
+        if let Step::Found { record, next } = &mut step {
+            next.order = self.order.other();
+            if let Record::CallArgument { argument } = record {
+                *argument = argument.swap_bytes();
+            }
+        }
+        let list = answer::step(&step);
+        answer::same(&list, answer::all(&list), |which| {
+            proved::next(&self.turned, &at, which)
+        })
+        .map_err(|text| format!("next({at:?}), turned: {text}"))?;
+        self.counts.met(TURNED, self.order, 1);
+        Ok(())
+    }
+
     /// A step from a position near to this record.
     fn odd_step(&mut self, near: &Met) -> Result<(), String> {
-        let at = places::position(&mut self.random, near, self.log);
+        let at = places::position(&mut self.random, near, self.log, self.order);
+        let order = order::of(at.order);
         match self.step(&at)? {
-            Step::Over => self.counts.met.count(OVER, 0),
-            step => self.counts.refusals.count(ODD_STEP, refusal(&step)),
+            Step::Over => self.counts.met(OVER, order, 1),
+            step => self.counts.answered(ODD_STEP, order, refusal(&step)),
         }
         Ok(())
     }
 
     /// The reader and the event part at one place.
     fn record(&mut self, end: u64, place: u64) -> Result<(), String> {
-        let log = self.log;
-        let list = answer::read(&reader::read(log, end, place));
+        let ([own, _], log) = (self.named, self.log);
+        let list = answer::read(&reader::read(log, self.order, end, place));
         let name = || format!("read(end {end}, place {place})");
-        self.same(name, &list, |which| proved::read(log, end, place, which))?;
-        self.counts.refusals.count(READER, list[0] as usize);
+        self.same(name, &list, |which| {
+            proved::read(log, own, end, place, which)
+        })?;
+        self.counts.answered(READER, self.order, list[0] as usize);
         self.event(end, place)
     }
 
     /// The event part, which is empty at most places.
     fn event(&mut self, end: u64, place: u64) -> Result<(), String> {
-        let (log, event) = (self.log, reader::event(self.log, end, place));
-        self.counts.met.count(ANSWERS, 0);
-        self.counts.met.add(EVENTS, 0, u64::from(!event.is_empty()));
-        answer::same_event(event, |which| proved::event(log, end, place, which))
+        let ([own, _], log) = (self.named, self.log);
+        let event = reader::event(log, self.order, end, place);
+        self.counts.met(ANSWERS, self.order, 1);
+        let some = u64::from(!event.is_empty());
+        self.counts.met(EVENTS, self.order, some);
+        answer::same_event(event, |which| proved::event(log, own, end, place, which))
             .map_err(|text| format!("event(end {end}, place {place}): {text}"))
     }
 

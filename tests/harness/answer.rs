@@ -81,8 +81,8 @@ pub fn read(answer: &Read) -> [u64; 6] {
 }
 
 /// A step of the walk.
-pub fn step(answer: &Step) -> [u64; 10] {
-    let mut list = [0; 10];
+pub fn step(answer: &Step) -> [u64; 11] {
+    let mut list = [0; 11];
     match answer {
         Step::Over => list[0] = OVER,
         Step::Refused { number, place } => list[..2].copy_from_slice(&[(*number).into(), *place]),
@@ -91,7 +91,8 @@ pub fn step(answer: &Step) -> [u64; 10] {
             let Fields { kind, values } = record.into();
             list[1..6].copy_from_slice(&[at.place, at.end, at.size, at.stage, at.thread]);
             list[6] = kind;
-            list[7..].copy_from_slice(&values);
+            list[7..10].copy_from_slice(&values);
+            list[10] = at.order.into();
         }
     }
     list
@@ -106,13 +107,14 @@ pub fn written(answer: &Result<usize, u8>) -> [u64; 2] {
 }
 
 /// A call of the log writer: the next state.
-pub fn called(answer: &Result<State, u8>) -> [u64; 6] {
+pub fn called(answer: &Result<State, u8>) -> [u64; 7] {
     match answer {
         Ok(state) => {
             let at = At::from(state);
-            [0, at.size, at.thread, at.place, at.end, at.stage]
+            let order = at.order.into();
+            [0, at.size, at.thread, at.place, at.end, at.stage, order]
         }
-        Err(number) => [(*number).into(), 0, 0, 0, 0, 0],
+        Err(number) => [(*number).into(), 0, 0, 0, 0, 0, 0],
     }
 }
 

@@ -3,7 +3,11 @@
 
 use crate::entries::GREATEST;
 use logs::inputs::Kind;
+use second::order::Order;
 use std::fmt::{Display, Formatter, Result};
+
+/// The columns of a table that counts by byte order.
+pub const ORDERS: [&str; 2] = ["little", "big"];
 
 /// Counts in rows and columns.
 pub struct Table {
@@ -29,10 +33,11 @@ impl Table {
         Table::grid(heading, &[unit], names)
     }
 
-    /// Logs by the kinds of `Kind::all()`; the last row is for others.
-    pub fn kinds(unit: &str, others: &str) -> Table {
+    /// Logs by byte order and by the kinds of `Kind::all()`; the last row is for
+    /// others.
+    pub fn kinds(others: &str) -> Table {
         let names = Kind::all().into_iter().map(Kind::name);
-        Table::counting("kind", unit, names.chain([others.to_string()]))
+        Table::grid("logs by kind", &ORDERS, names.chain([others.to_string()]))
     }
 
     /// Rows that can each hit every column.
@@ -55,6 +60,18 @@ impl Table {
         let mut columns = vec!["none".to_string()];
         columns.extend((1..=GREATEST).map(|number| number.to_string()));
         Table::new(heading, &columns, rows)
+    }
+
+    /// The same, with a row for either byte order of each one: `by_order` gives
+    /// its place.
+    pub fn refusals_by_order(
+        heading: &'static str,
+        rows: impl IntoIterator<Item = (impl ToString, &'static [usize])>,
+    ) -> Table {
+        let rows = rows.into_iter().flat_map(|(name, can)| {
+            ORDERS.map(|order| (format!("{}, {order}", name.to_string()), can))
+        });
+        Table::refusals(heading, rows)
     }
 
     /// Rows with the columns that each can hit.
@@ -117,6 +134,11 @@ impl Table {
             _ => format!("{name}, {}", self.columns[column]),
         }
     }
+}
+
+/// The place of a row in a table that has one for either byte order.
+pub fn by_order(row: usize, order: Order) -> usize {
+    row * ORDERS.len() + order as usize
 }
 
 impl Display for Table {

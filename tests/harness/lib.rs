@@ -7,6 +7,7 @@
 pub mod answer;
 pub mod counts;
 pub mod entries;
+pub mod order;
 #[allow(unsafe_code)]
 pub mod proved;
 pub mod record;

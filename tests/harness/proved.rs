@@ -1,6 +1,6 @@
 //! The proved code. Each function of the probe gives one number of its answer;
 //! a writer writes, the scrubber scrubs and the replay fills its table at each
-//! call.
+//! call. An order of 0 is little-endian, and any other is big-endian.
 
 use crate::record::Fields;
 use crate::state::{At, Opening, Start};
@@ -13,40 +13,45 @@ mod c {
             frequency_a: u64, constant_tsc_a: u64, closed_a: u64, backward_a: u64, ticks_a: u64,
             frequency_b: u64, constant_tsc_b: u64, closed_b: u64, backward_b: u64, ticks_b: u64,
         ) -> u32;
-        pub fn towercloak_scrub(log: *mut u8, len: usize, place: *mut u64) -> u32;
+        pub fn towercloak_scrub(log: *mut u8, len: usize, order: u32, place: *mut u64) -> u32;
 
-        pub fn probe_header(log: *const u8, len: usize, which: u64) -> u64;
-        pub fn probe_read(log: *const u8, len: usize, end: u64, place: u64, which: u64) -> u64;
-        pub fn probe_event(log: *const u8, len: usize, end: u64, place: u64, which: u64) -> u64;
+        pub fn probe_header(log: *const u8, len: usize, order: u32, which: u64) -> u64;
+        pub fn probe_read(
+            log: *const u8, len: usize, order: u32, end: u64, place: u64, which: u64,
+        ) -> u64;
+        pub fn probe_event(
+            log: *const u8, len: usize, order: u32, end: u64, place: u64, which: u64,
+        ) -> u64;
         pub fn probe_next(
-            log: *const u8, len: usize,
+            log: *const u8, len: usize, order: u32,
             place: u64, end: u64, size: u64, stage: u64, thread: u64, which: u64,
         ) -> u64;
-        pub fn probe_scrub(log: *mut u8, len: usize, which: u64) -> u64;
+        pub fn probe_scrub(log: *mut u8, len: usize, order: u32, which: u64) -> u64;
         pub fn probe_replay(
-            log: *const u8, len: usize, table: *mut u64, table_len: usize, which: u64,
+            log: *const u8, len: usize, order: u32,
+            table: *mut u64, table_len: usize, which: u64,
         ) -> u64;
 
         pub fn probe_write(
-            kind: u64, a: u64, b: u64, c: u64, event: *const u8, event_len: usize,
+            order: u32, kind: u64, a: u64, b: u64, c: u64, event: *const u8, event_len: usize,
             out: *mut u8, len: usize, which: u64,
         ) -> u64;
         pub fn probe_start(
-            frequency: u64, constant_tsc: u64, nonstop_tsc: u64, size: u64, thread: u64,
+            order: u32, frequency: u64, constant_tsc: u64, nonstop_tsc: u64, size: u64, thread: u64,
             out: *mut u8, len: usize, which: u64,
         ) -> u64;
         pub fn probe_open(
-            size: u64, thread: u64, place: u64, end: u64, stage: u64,
+            order: u32, size: u64, thread: u64, place: u64, end: u64, stage: u64,
             seconds: u64, micros: u64, cpu: u64, tsc: u64,
             out: *mut u8, len: usize, which: u64,
         ) -> u64;
         pub fn probe_add(
-            size: u64, thread: u64, place: u64, end: u64, stage: u64,
+            order: u32, size: u64, thread: u64, place: u64, end: u64, stage: u64,
             kind: u64, a: u64, b: u64, c: u64, event: *const u8, event_len: usize,
             out: *mut u8, len: usize, which: u64,
         ) -> u64;
         pub fn probe_close(
-            size: u64, thread: u64, place: u64, end: u64, stage: u64,
+            order: u32, size: u64, thread: u64, place: u64, end: u64, stage: u64,
             out: *mut u8, len: usize, which: u64,
         ) -> u64;
     }
@@ -68,57 +73,57 @@ pub fn compare(a: &Side, b: &Side) -> u32 {
 
 /// The scrubber, as a C program has it: the refusal's number or 0, and its
 /// place.
-pub fn scrub(log: &mut [u8]) -> (u32, u64) {
+pub fn scrub(log: &mut [u8], order: u32) -> (u32, u64) {
     let mut place = u64::MAX;
     // SAFETY: here and below, pointers and lengths are those of slices that
     // outlive the call.
-    let number = unsafe { c::towercloak_scrub(log.as_mut_ptr(), log.len(), &mut place) };
+    let number = unsafe { c::towercloak_scrub(log.as_mut_ptr(), log.len(), order, &mut place) };
     (number, place)
 }
 
-pub fn scrub_number(log: &mut [u8], which: u64) -> u64 {
-    unsafe { c::probe_scrub(log.as_mut_ptr(), log.len(), which) }
+pub fn scrub_number(log: &mut [u8], order: u32, which: u64) -> u64 {
+    unsafe { c::probe_scrub(log.as_mut_ptr(), log.len(), order, which) }
 }
 
 #[rustfmt::skip]
-pub fn replay(log: &[u8], table: &mut [u64], which: u64) -> u64 {
+pub fn replay(log: &[u8], order: u32, table: &mut [u64], which: u64) -> u64 {
     unsafe {
         c::probe_replay(
-            log.as_ptr(), log.len(),
+            log.as_ptr(), log.len(), order,
             table.as_mut_ptr(), table.len(), which,
         )
     }
 }
 
-pub fn header(log: &[u8], which: u64) -> u64 {
-    unsafe { c::probe_header(log.as_ptr(), log.len(), which) }
+pub fn header(log: &[u8], order: u32, which: u64) -> u64 {
+    unsafe { c::probe_header(log.as_ptr(), log.len(), order, which) }
 }
 
-pub fn read(log: &[u8], end: u64, place: u64, which: u64) -> u64 {
-    unsafe { c::probe_read(log.as_ptr(), log.len(), end, place, which) }
+pub fn read(log: &[u8], order: u32, end: u64, place: u64, which: u64) -> u64 {
+    unsafe { c::probe_read(log.as_ptr(), log.len(), order, end, place, which) }
 }
 
 /// One number of the event's answer: its length, then its bytes.
-pub fn event(log: &[u8], end: u64, place: u64, which: u64) -> u64 {
-    unsafe { c::probe_event(log.as_ptr(), log.len(), end, place, which) }
+pub fn event(log: &[u8], order: u32, end: u64, place: u64, which: u64) -> u64 {
+    unsafe { c::probe_event(log.as_ptr(), log.len(), order, end, place, which) }
 }
 
 #[rustfmt::skip]
 pub fn next(log: &[u8], at: &At, which: u64) -> u64 {
     unsafe {
         c::probe_next(
-            log.as_ptr(), log.len(),
+            log.as_ptr(), log.len(), at.order,
             at.place, at.end, at.size, at.stage, at.thread, which,
         )
     }
 }
 
 #[rustfmt::skip]
-pub fn write(fields: &Fields, event: &[u8], out: &mut [u8], which: u64) -> u64 {
+pub fn write(fields: &Fields, order: u32, event: &[u8], out: &mut [u8], which: u64) -> u64 {
     let (kind, [a, b, c]) = (fields.kind, fields.values);
     unsafe {
         c::probe_write(
-            kind, a, b, c, event.as_ptr(), event.len(),
+            order, kind, a, b, c, event.as_ptr(), event.len(),
             out.as_mut_ptr(), out.len(), which,
         )
     }
@@ -128,6 +133,7 @@ pub fn write(fields: &Fields, event: &[u8], out: &mut [u8], which: u64) -> u64 {
 pub fn start(start: &Start, out: &mut [u8], which: u64) -> u64 {
     unsafe {
         c::probe_start(
+            start.order,
             start.frequency, start.constant_tsc, start.nonstop_tsc, start.size, start.thread,
             out.as_mut_ptr(), out.len(), which,
         )
@@ -138,7 +144,7 @@ pub fn start(start: &Start, out: &mut [u8], which: u64) -> u64 {
 pub fn open(at: &At, opening: &Opening, out: &mut [u8], which: u64) -> u64 {
     unsafe {
         c::probe_open(
-            at.size, at.thread, at.place, at.end, at.stage,
+            at.order, at.size, at.thread, at.place, at.end, at.stage,
             opening.seconds, opening.micros, opening.cpu, opening.tsc,
             out.as_mut_ptr(), out.len(), which,
         )
@@ -150,7 +156,7 @@ pub fn add(at: &At, fields: &Fields, event: &[u8], out: &mut [u8], which: u64) -
     let (kind, [a, b, c]) = (fields.kind, fields.values);
     unsafe {
         c::probe_add(
-            at.size, at.thread, at.place, at.end, at.stage,
+            at.order, at.size, at.thread, at.place, at.end, at.stage,
             kind, a, b, c, event.as_ptr(), event.len(),
             out.as_mut_ptr(), out.len(), which,
         )
@@ -161,7 +167,7 @@ pub fn add(at: &At, fields: &Fields, event: &[u8], out: &mut [u8], which: u64) -
 pub fn close(at: &At, out: &mut [u8], which: u64) -> u64 {
     unsafe {
         c::probe_close(
-            at.size, at.thread, at.place, at.end, at.stage,
+            at.order, at.size, at.thread, at.place, at.end, at.stage,
             out.as_mut_ptr(), out.len(), which,
         )
     }

@@ -3,6 +3,7 @@
 use crate::answer;
 use crate::proved;
 use logs::random::Random;
+use second::order::Order;
 use second::replay::{replay, Answer, TABLE};
 
 /// The longest table that is lent.
@@ -17,6 +18,7 @@ const FIRST: [u64; 2] = [0, 1];
 
 /// What a replay must answer, and the numbers that it must write: the first of
 /// the table, or none.
+#[derive(PartialEq)]
 pub struct Expected {
     pub answer: Answer,
     written: Vec<u64>,
@@ -24,9 +26,9 @@ pub struct Expected {
 
 impl Expected {
     /// What the second program gives, with a table of this length.
-    pub fn of(log: &[u8], length: usize) -> Expected {
+    pub fn of(log: &[u8], order: Order, length: usize) -> Expected {
         let mut table = vec![1; length];
-        let answer = replay(log, &mut table);
+        let answer = replay(log, order, &mut table);
         // "After 14 the counts are zero and the table is untouched."
         let written = if length < TABLE { 0 } else { TABLE };
         table.truncate(written);
@@ -55,11 +57,13 @@ impl Lent {
         }
     }
 
-    /// Replays a log that must be answered so, with a table of this length: all
-    /// numbers of the answer, or the first two. The text tells of a difference.
+    /// Replays a log of this order that must be answered so, with a table of this
+    /// length: all numbers of the answer, or the first two. The text tells of a
+    /// difference.
     pub fn compare(
         &mut self,
         log: &[u8],
+        order: u32,
         length: usize,
         whole: bool,
         expected: &Expected,
@@ -69,7 +73,9 @@ impl Lent {
         for which in asked {
             self.table.copy_from_slice(&self.before);
             let lent = &mut self.table[..length];
-            answer::same(&list, [*which], |which| proved::replay(log, lent, which))?;
+            answer::same(&list, [*which], |which| {
+                proved::replay(log, order, lent, which)
+            })?;
             self.compare_table(&expected.written)?;
         }
         Ok(())

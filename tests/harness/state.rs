@@ -1,15 +1,18 @@
 //! Positions of the walk and states of the log writer as the numbers that the
 //! proved code takes, and what a log is started and a buffer opened with.
 
+use crate::order;
 use second::log_writer;
 use second::walk::{Position, Stage};
 
 /// The least number that stands for no thread seen yet.
 pub const NO_THREAD: u64 = 65_536;
 
-/// A position or a state. A stage above 4 counts as 4.
+/// A position or a state. A stage above 4 counts as 4; an order of any number but
+/// 0 is big-endian.
 #[derive(Debug, Clone, Copy, PartialEq, Eq, Default)]
 pub struct At {
+    pub order: u32,
     pub size: u64,
     pub thread: u64,
     pub place: u64,
@@ -20,6 +23,7 @@ pub struct At {
 impl From<&Position> for At {
     fn from(position: &Position) -> At {
         At {
+            order: order::number(position.order),
             size: position.size,
             thread: position.thread.map_or(NO_THREAD, u64::from),
             place: position.place,
@@ -32,6 +36,7 @@ impl From<&Position> for At {
 impl From<&log_writer::State> for At {
     fn from(state: &log_writer::State) -> At {
         At::from(&Position {
+            order: state.order,
             place: state.place,
             end: state.end,
             size: state.size,
@@ -44,6 +49,7 @@ impl From<&log_writer::State> for At {
 impl At {
     pub fn position(&self) -> Position {
         Position {
+            order: order::of(self.order),
             place: self.place,
             end: self.end,
             size: self.size,
@@ -62,6 +68,7 @@ impl At {
     pub fn state(&self) -> log_writer::State {
         let position = self.position();
         log_writer::State {
+            order: position.order,
             size: position.size,
             thread: self.thread as u16,
             place: position.place,
@@ -74,6 +81,7 @@ impl At {
 /// What a log is started with. A flag of any number but 0 is set.
 #[derive(Debug, Clone, Copy)]
 pub struct Start {
+    pub order: u32,
     pub frequency: u64,
     pub constant_tsc: u64,
     pub nonstop_tsc: u64,
@@ -84,6 +92,7 @@ pub struct Start {
 impl Start {
     pub fn second(&self) -> log_writer::Start {
         log_writer::Start {
+            order: order::of(self.order),
             frequency: self.frequency,
             constant_tsc: self.constant_tsc != 0,
             nonstop_tsc: self.nonstop_tsc != 0,

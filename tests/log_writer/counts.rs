@@ -3,11 +3,13 @@
 use crate::call::Call;
 use crate::edges::{self, Case, EDGES};
 use crate::plan::{Kind, SMALL};
-use harness::counts::Table;
+use harness::counts::{by_order, Table, ORDERS};
 use harness::entries;
+use harness::order;
 use harness::record;
 use harness::state::At;
 use second::log_writer::State;
+use second::order::Order;
 use second::record::Record;
 use std::collections::HashSet;
 
@@ -38,16 +40,17 @@ fn can_answer(record: &str) -> &'static [usize] {
 const READ: [&str; 5] = ["logs", "logs with buffers", "records", "events", "bytes"];
 
 pub struct Counts {
-    /// Sequences by kind.
+    /// Sequences by kind and order.
     pub kinds: Table,
     calls: Table,
     added: Table,
     /// Calls at each edge; then odd states that only the limit of 16,777,216
-    /// bytes shuts out, and rounds of outputs of every small length.
+    /// bytes shuts out, rounds of outputs of every small length, and calls taken
+    /// in a session's own state but for the order.
     edges: Table,
     read: Table,
-    /// The lengths that are missing in this round.
-    lengths: HashSet<usize>,
+    /// The lengths that are missing in this round of each order.
+    lengths: [HashSet<usize>; 2],
 }
 
 /// The place of a call in `CALLS`.
@@ -69,45 +72,63 @@ impl Counts {
         let edges = EDGES.iter().map(|(name, _)| *name);
         let kinds = Kind::ALL.map(|kind| format!("{kind:?}"));
         let records = record::NAMES.map(|name| (name, can_answer(name)));
-        let others = ["odd state past 16,777,216: 7", "every length up to 300"];
+        let others = [
+            "odd state past 16,777,216: 7",
+            "every length up to 300",
+            "in the other order: taken",
+        ];
         Counts {
-            kinds: Table::counting("kind", "sequences", kinds),
-            calls: Table::refusals("refusals by call", CALLS),
-            added: Table::refusals("refusals of add", records),
-            edges: Table::counting("edge", "calls", edges.chain(others)),
-            read: Table::counting("read back", "sum", READ),
-            lengths: (0..=SMALL).collect(),
+            kinds: Table::grid("sequences by kind", &ORDERS, kinds),
+            calls: Table::refusals_by_order("refusals by call", CALLS),
+            added: Table::refusals_by_order("refusals of add", records),
+            edges: Table::grid("calls at an edge", &ORDERS, edges.chain(others)),
+            read: Table::grid("read back", &ORDERS, READ),
+            lengths: [0; 2].map(|_| (0..=SMALL).collect()),
         }
     }
 
     /// A call in the session's own state.
     pub fn call(&mut self, case: &Case) {
         let number = refusal(case.answer);
-        self.calls.count(row(case.call), number);
+        self.calls
+            .count(by_order(row(case.call), case.order), number);
         if let Call::Add { fields, .. } = case.call {
-            self.added.count(fields.name(), number);
+            self.added
+                .count(by_order(fields.name(), case.order), number);
         }
         for (edge, (_, lies_there)) in EDGES.iter().enumerate() {
-            self.edges.add(edge, 0, u64::from(lies_there(case)));
+            let there = u64::from(lies_there(case));
+            self.edges.add(edge, case.order as usize, there);
         }
     }
 
     pub fn odd_call(&mut self, call: &Call, at: &At, length: usize, answer: &Result<State, u8>) {
-        self.calls.count(ODD + row(call), refusal(answer));
-        let past = edges::is_past(call, at, length);
-        self.edges.add(EDGES.len(), 0, u64::from(past));
+        let order = order::of(at.order);
+        self.calls
+            .count(by_order(ODD + row(call), order), refusal(answer));
+        let past = u64::from(edges::is_past(call, at, length));
+        self.edges.add(EDGES.len(), order as usize, past);
     }
 
-    /// The length of an output.
-    pub fn output(&mut self, length: usize) {
-        self.lengths.remove(&length);
-        if self.lengths.is_empty() {
-            self.lengths = (0..=SMALL).collect();
-            self.edges.count(EDGES.len() + 1, 0);
+    /// An odd state in which a call was taken, beside the session's own.
+    pub fn odd_order(&mut self, own: &State, at: &At) {
+        let order = own.order.other();
+        if at.state() == (State { order, ..*own }) {
+            self.edges.count(EDGES.len() + 2, own.order as usize);
         }
     }
 
-    pub fn read_back(&mut self, length: usize, records: &[(Record, Vec<u8>)]) {
+    /// The length of an output.
+    pub fn output(&mut self, order: Order, length: usize) {
+        let missing = &mut self.lengths[order as usize];
+        missing.remove(&length);
+        if missing.is_empty() {
+            *missing = (0..=SMALL).collect();
+            self.edges.count(EDGES.len() + 1, order as usize);
+        }
+    }
+
+    pub fn read_back(&mut self, order: Order, length: usize, records: &[(Record, Vec<u8>)]) {
         let is_event = |record: &Record| matches!(record, Record::CustomEvent { .. });
         let events = records.iter().filter(|(record, _)| is_event(record));
         let sums = [
@@ -118,7 +139,7 @@ impl Counts {
             length,
         ];
         for (row, sum) in sums.into_iter().enumerate() {
-            self.read.add(row, 0, sum as u64);
+            self.read.add(row, order as usize, sum as u64);
         }
     }
 

@@ -5,6 +5,7 @@ use harness::record::EVENT;
 use harness::state::At;
 use second::header::LONGEST;
 use second::log_writer::{is_returned, State, GREATEST_BUFFER};
+use second::order::Order;
 use second::record::{Record, ENTRY_ARGS};
 use second::writer::LEAST_BAD_ID;
 
@@ -12,6 +13,8 @@ use second::writer::LEAST_BAD_ID;
 pub type Edge = (&'static str, fn(&Case) -> bool);
 
 pub struct Case<'a> {
+    /// The session's order.
+    pub order: Order,
     pub call: &'a Call,
     pub at: &'a At,
     pub length: usize,

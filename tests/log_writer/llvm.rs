@@ -2,12 +2,12 @@
 //! must be the accepted records, in order and with all their fields; and with
 //! `--verify` it must find their order right.
 //!
-//! Tried with version 14. It shows nothing of the header. Behind EndOfBuffer it
-//! reads on in the skipped rest, 8 zero bytes at a time as an Entry of function
-//! 0; a rest of another length puts the next buffer out of step, or is refused
-//! at the log's end. An event of 0 bytes is refused. So these logs have buffers
-//! and events of a multiple of 8 bytes, and no empty event. `--verify` takes a
-//! CallArgument behind any function record.
+//! Tried with version 14, on little-endian logs. It shows nothing of the header.
+//! Behind EndOfBuffer it reads on in the skipped rest, 8 zero bytes at a time as
+//! an Entry of function 0; a rest of another length puts the next buffer out of
+//! step, or is refused at the log's end. An event of 0 bytes is refused. So these
+//! logs have buffers and events of a multiple of 8 bytes, and no empty event.
+//! `--verify` takes a CallArgument behind any function record.
 
 use crate::call::Call;
 use crate::counts::Counts;
@@ -17,6 +17,7 @@ use harness::counts::Table;
 use harness::record::{self, Fields};
 use harness::suite;
 use logs::random::Random;
+use second::order::Order;
 use second::record::Record;
 use second::walk::{walk, Stage};
 use std::path::Path;
@@ -62,7 +63,7 @@ fn log(program: &str, path: &Path, random: &mut Random, records: &mut Table) -> 
     let buffers = 1 + random.below(BUFFERS);
     let mut counts = Counts::new();
     let length = 32 + size * buffers;
-    let mut session = Session::new(random, &mut counts, length as usize);
+    let mut session = Session::new(random, &mut counts, Order::Little, length as usize);
     write(&mut session, size, buffers)?;
     session.read_back()?;
     std::fs::write(path, session.log()).map_err(|fault| fault.to_string())?;
@@ -89,7 +90,7 @@ fn output(command: &mut Command) -> Result<Vec<u8>, String> {
 
 /// A whole log. Refused calls are in it as well, and leave nothing.
 fn write(session: &mut Session, size: u64, buffers: u64) -> Result<(), String> {
-    let start = making::start(session.random, size);
+    let start = making::start(session.random, Order::Little, size);
     session.call(&start)?;
     for _ in 0..buffers {
         let open = making::open(session.random);
@@ -113,7 +114,7 @@ fn add(session: &mut Session) -> Call {
 /// The dump is the line of each record, and of each 8 bytes of a skipped rest.
 fn compare(session: &Session, dump: &[u8]) -> Result<(), String> {
     let mut left = dump;
-    let (items, _) = walk(session.log());
+    let (items, _) = walk(session.log(), Order::Little);
     for ((record, event), item) in session.records().iter().zip(items) {
         let mut lines = line(record, event);
         if *record == Record::EndOfBuffer {

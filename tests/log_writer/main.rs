@@ -1,7 +1,8 @@
 //! Compares the proved log writer with the second one, on sequences of calls in
-//! the states that they return and in others, and reads back what was written.
+//! the states that they return and in others, and reads back what was written,
+//! in both byte orders.
 //!
-//! With `--llvm`, some logs are then read by LLVM's `llvm-xray` too.
+//! With `--llvm`, some little-endian logs are then read by LLVM's `llvm-xray` too.
 //!
 //! `log_writer [SEQUENCES] [--seed SEED] [--llvm]`
 
@@ -20,6 +21,7 @@ mod session;
 
 use counts::Counts;
 use harness::suite::{self, Words};
+use logs::inputs::halved;
 use logs::random::Random;
 use plan::Kind;
 use session::Session;
@@ -31,15 +33,16 @@ const SEQUENCES: u64 = 200_000;
 /// One sequence of calls; the text tells of a difference.
 fn sequence(index: u64, seed: u64, counts: &mut Counts) -> Result<(), String> {
     let random = &mut Random::new(seed.wrapping_add(index));
-    let kind = Kind::at(index);
-    let plan = plan::plan(random, kind, index);
-    counts.kinds.count(kind as usize, 0);
-    counts.output(plan.length);
-    let mut session = Session::new(random, counts, plan.length);
+    let (half, order) = halved(index);
+    let kind = Kind::at(half);
+    let plan = plan::plan(random, kind, half);
+    counts.kinds.count(kind as usize, order as usize);
+    counts.output(order, plan.length);
+    let mut session = Session::new(random, counts, order, plan.length);
     session.run(&plan, kind).map_err(|text| {
         let (length, size) = (plan.length, plan.size);
         format!(
-            "difference: --seed {seed:#018x}, sequence {index}, {kind:?}, \
+            "difference: --seed {seed:#018x}, sequence {index}, {kind:?}, {order:?}, \
              output of {length} bytes, buffer_size {size}\n  {text}"
         )
     })

@@ -2,21 +2,24 @@
 
 use crate::call::Call;
 use crate::plan::Kind;
+use harness::order;
 use harness::record::{Fields, ARGUMENT, EVENT, FUNCTION};
 use harness::state::{Opening, Start};
 use logs::random::Random;
 use second::log_writer::State;
+use second::order::Order;
 use second::walk::Stage;
 
 /// The least room in which most events are shorter, so that more of them fit.
 const WIDE: u64 = 100_000;
 
-pub fn start(random: &mut Random, size: u64) -> Call {
+pub fn start(random: &mut Random, order: Order, size: u64) -> Call {
     let flag = |random: &mut Random| match random.below(3) {
         0 => random.value(),
         _ => random.below(2),
     };
     Call::Start(Start {
+        order: order::named(random, order),
         frequency: random.value(),
         constant_tsc: flag(random),
         nonstop_tsc: flag(random),

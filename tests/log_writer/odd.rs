@@ -1,16 +1,19 @@
 //! States that no session need have returned: near to those that one can, or
 //! far away.
 
+use harness::order;
 use harness::state::At;
 use logs::random::Random;
 use second::header::LONGEST;
 use second::log_writer::State;
+use second::order::Order;
 
 /// A state near to this one, or, where none is given and at times else, near to
 /// one that some calls on an output of this length may return.
 pub fn at(random: &mut Random, state: Option<&State>, length: usize) -> At {
     let mut at = match state {
         _ if length > LONGEST && random.once_in(2) => return past(random, length as u64),
+        Some(state) if random.once_in(8) => return in_other_order(random, state),
         Some(state) if !random.once_in(3) => At::from(state),
         _ => somewhere(random, length as u64),
     };
@@ -18,6 +21,14 @@ pub fn at(random: &mut Random, state: Option<&State>, length: usize) -> At {
         change(random, &mut at, length as u64);
     }
     at
+}
+
+/// The same state, but for its order.
+fn in_other_order(random: &mut Random, state: &State) -> At {
+    At {
+        order: order::named(random, state.order.other()),
+        ..At::from(state)
+    }
 }
 
 /// Whole buffers up to the end, and the place in the last one.
@@ -49,7 +60,9 @@ fn somewhere(random: &mut Random, length: u64) -> At {
 
 /// At an offset of the buffer that ends here; between buffers, at the end.
 fn inside(random: &mut Random, size: u64, end: u64, stage: u64, offset: u64) -> At {
+    let order = random.one_of(&Order::ALL);
     At {
+        order: order::named(random, order),
         size,
         thread: random.value(),
         place: match stage {
@@ -80,7 +93,7 @@ fn change(random: &mut Random, at: &mut At, length: u64) {
     } else {
         step.wrapping_neg()
     };
-    match random.below(16) {
+    match random.below(17) {
         0..=2 => at.place = at.place.wrapping_add(step),
         3 => at.end = at.end.wrapping_add(step),
         4 => at.size = at.size.wrapping_add(step),
@@ -92,6 +105,7 @@ fn change(random: &mut Random, at: &mut At, length: u64) {
         10 => at.size = far(random, at.size, length),
         11 => at.thread = random.value(),
         12 => at.stage = random.one_of(&[5, 255, 256, u64::MAX, 1 << 32]),
+        13 => at.order = random.one_of(&[0, 1, 2, 1 << 16, u32::MAX]),
         _ => at.stage = random.below(5),
     }
 }

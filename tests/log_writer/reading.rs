@@ -1,6 +1,7 @@
 //! What a session wrote, read back.
 
 use harness::answer;
+use harness::order;
 use harness::proved;
 use harness::state::At;
 use second::header::{self, Header};
@@ -24,10 +25,11 @@ fn header_of(start: &Start) -> Header {
 /// The second program's walk meets the accepted records and events, and no
 /// refusal; hidden bytes other than events and arguments are zero.
 pub fn by_second(log: &[u8], start: &Start, accepted: &[Accepted]) -> Result<(), String> {
-    if header::check(log) != Ok(header_of(start)) {
-        return Err(format!("the header is read as {:?}", header::check(log)));
+    let header = header::check(log, start.order);
+    if header != Ok(header_of(start)) {
+        return Err(format!("the header is read as {header:?}"));
     }
-    let (items, outcome) = walk(log);
+    let (items, outcome) = walk(log, start.order);
     if outcome != Outcome::Done || items.len() != accepted.len() {
         let count = items.len();
         return Err(format!("{count} records are read, then {outcome:?}"));
@@ -40,7 +42,7 @@ pub fn by_second(log: &[u8], start: &Start, accepted: &[Accepted]) -> Result<(),
         }
     }
     let shown = [Kind::Argument, Kind::Event];
-    for part in hidden(log) {
+    for part in hidden(log, start.order) {
         if !shown.contains(&part.kind) && log[part.bytes.clone()].iter().any(|byte| *byte != 0) {
             return Err(format!("{part:?} isn't zero"));
         }
@@ -51,9 +53,10 @@ pub fn by_second(log: &[u8], start: &Start, accepted: &[Accepted]) -> Result<(),
 /// The proved reader meets the same, step by step.
 pub fn by_proved(log: &[u8], start: &Start, accepted: &[Accepted]) -> Result<(), String> {
     let header = header_of(start);
+    let order = order::number(start.order);
     let list = answer::header(&Ok(header));
-    same("header", &list, |which| proved::header(log, which))?;
-    let mut position = walk::start(&header);
+    same("header", &list, |which| proved::header(log, order, which))?;
+    let mut position = walk::start(&header, start.order);
     for (record, event) in accepted {
         let Step::Found { next, .. } = walk::next(log, position) else {
             return Err(format!("no step from {position:?}"));
@@ -63,7 +66,8 @@ pub fn by_proved(log: &[u8], start: &Start, accepted: &[Accepted]) -> Result<(),
         let list = answer::step(&Step::Found { record, next });
         let name = format!("record at {place}");
         same(&name, &list, |which| proved::next(log, &at, which))?;
-        answer::same_event(event, |which| proved::event(log, next.end, place, which))
+        let ask = |which| proved::event(log, order, next.end, place, which);
+        answer::same_event(event, ask)
             .map_err(|text| format!("proved reader, event at {place}: {text}"))?;
         position = next;
     }

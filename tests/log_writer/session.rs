@@ -12,6 +12,7 @@ use crate::reading;
 use harness::state::At;
 use logs::random::Random;
 use second::log_writer::{Start, State};
+use second::order::Order;
 use second::record::Record;
 use second::walk::Stage;
 
@@ -21,6 +22,7 @@ const FAR: u64 = 4_096;
 pub struct Session<'a> {
     pub random: &'a mut Random,
     counts: &'a mut Counts,
+    order: Order,
     output: Output,
     start: Option<Start>,
     state: Option<State>,
@@ -32,11 +34,17 @@ pub struct Session<'a> {
 }
 
 impl<'a> Session<'a> {
-    pub fn new(random: &'a mut Random, counts: &'a mut Counts, length: usize) -> Session<'a> {
+    pub fn new(
+        random: &'a mut Random,
+        counts: &'a mut Counts,
+        order: Order,
+        length: usize,
+    ) -> Session<'a> {
         Session {
             output: Output::new(random, length),
             random,
             counts,
+            order,
             start: None,
             state: None,
             closed: Vec::new(),
@@ -47,7 +55,7 @@ impl<'a> Session<'a> {
 
     /// All calls of a sequence, and the reading of what they wrote.
     pub fn run(&mut self, plan: &Plan, kind: Kind) -> Result<(), String> {
-        let begin = making::start(self.random, plan.size);
+        let begin = making::start(self.random, self.order, plan.size);
         self.call(&begin)?;
         for _ in 0..plan.calls {
             // Large outputs are few.
@@ -79,6 +87,7 @@ impl<'a> Session<'a> {
             .call(call, &at, length, self.random)
             .map_err(named)?;
         self.counts.call(&Case {
+            order: self.order,
             call,
             at: &at,
             length,
@@ -133,6 +142,9 @@ impl<'a> Session<'a> {
             .call(&call, &at, length, self.random)
             .map_err(named)?;
         self.counts.odd_call(&call, &at, length, &done.answer);
+        if let (Some(own), Ok(_)) = (&self.state, &done.answer) {
+            self.counts.odd_order(own, &at);
+        }
         self.output.undo(done);
         Ok(())
     }
@@ -147,7 +159,7 @@ impl<'a> Session<'a> {
         reading::by_second(log, start, &self.closed)?;
         reading::by_proved(log, start, &self.closed)?;
         let length = log.len();
-        self.counts.read_back(length, &self.closed);
+        self.counts.read_back(self.order, length, &self.closed);
         Ok(())
     }
 

@@ -1,6 +1,7 @@
 //! Compares the proved replay with the second one: the answers, and the lent
-//! tables number by number, on generated logs and on the samples; and what the
-//! program prints, where one is named.
+//! tables number by number, on generated logs and on the samples of both byte
+//! orders; and what the program prints, where one is named. A log that is turned
+//! into the other order must have the same answer and the same table.
 //!
 //! `replay [LOGS] [--seed SEED] [--program PATH]`
 
@@ -10,10 +11,13 @@ mod counts;
 mod program;
 
 use counts::Counts;
+use harness::order;
 use harness::replaying::{self, Expected, Lent};
 use harness::suite::{self, Words};
-use logs::inputs::{self, Kind};
+use logs::inputs::{self, Input, Kind};
 use logs::random::Random;
+use logs::turn::turned;
+use second::order::Order;
 use std::path::Path;
 use std::process::ExitCode;
 
@@ -29,19 +33,44 @@ struct Run {
 }
 
 impl Run {
-    /// Compares one log; the text tells of a difference.
-    fn compare(&mut self, log: &[u8], seed: u64, name: &str) -> Result<(), String> {
+    /// Compares one log of this order; the text tells of a difference.
+    fn compare(&mut self, log: &[u8], order: Order, seed: u64, name: &str) -> Result<(), String> {
         let random = &mut Random::new(!seed);
         let short = random.once_in(SHORT);
-        let (length, whole) = (replaying::length(random, short), random.once_in(4));
-        let expected = Expected::of(log, length);
-        let compared = self.lent.compare(log, length, whole, &expected);
-        compared.map_err(|text| {
+        let length = replaying::length(random, short);
+        let named = |text| {
             let text = format!("table of {length}: {text}");
             suite::difference(name, seed, log, &text)
-        })?;
-        self.counts.answer(&expected.answer, length, whole);
+        };
+        let expected = Expected::of(log, order, length);
+        let whole = random.once_in(4);
+        let number = order::named(random, order);
+        let compared = self.lent.compare(log, number, length, whole, &expected);
+        compared.map_err(named)?;
+        self.counts.answer(order, &expected.answer, length, whole);
+        if random.once_in(2) {
+            let turned = self.turned(log, order, random, length, &expected);
+            turned.map_err(|text| named(format!("turned: {text}")))?;
+            self.counts.turned(order);
+        }
         Ok(())
+    }
+
+    /// The log in the other order, which must be answered alike by both.
+    fn turned(
+        &mut self,
+        log: &[u8],
+        order: Order,
+        random: &mut Random,
+        length: usize,
+        expected: &Expected,
+    ) -> Result<(), String> {
+        let (other, order) = (turned(log, order), order.other());
+        if Expected::of(&other, order, length) != *expected {
+            return Err("second program: another answer or table".to_string());
+        }
+        let number = order::named(random, order);
+        self.lent.compare(&other, number, length, false, expected)
     }
 }
 
@@ -53,13 +82,18 @@ fn run(mut words: Words) -> Result<String, String> {
         counts: Counts::new(),
     };
     for index in 0..logs {
-        let (kind, seed) = Kind::at(index, seed);
-        run.compare(&kind.log(seed), seed, &kind.name())?;
-        run.counts.kinds.count(kind.index(), 0);
+        let input = Input::at(index, seed);
+        let (kind, order) = (input.kind, input.order);
+        run.compare(&input.log(), order, input.seed, &input.name())?;
+        run.counts.kinds.count(kind.index(), order as usize);
     }
-    for (name, log) in inputs::samples()? {
-        run.compare(&log, seed, &name)?;
-        run.counts.kinds.count(Kind::all().len(), 0);
+    // In the order that is theirs, and in the other.
+    for sample in inputs::samples()? {
+        for order in Order::ALL {
+            let name = format!("{}, {order:?}", sample.name);
+            run.compare(&sample.log, order, seed, &name)?;
+            run.counts.kinds.count(Kind::all().len(), order as usize);
+        }
     }
     suite::seen(&run.counts.tables())?;
     if let Some(path) = program {

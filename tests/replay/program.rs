@@ -1,12 +1,14 @@
 //! The program that replays a log from standard input: what it prints,
-//! compared byte by byte. Paper 01, "Sample logs".
+//! compared byte by byte. Paper 01, "Sample logs". It takes every log for a
+//! little-endian one; the big-endian ones here must be refused so.
 
 use harness::counts::Table;
 use harness::entries;
 use harness::suite;
 use logs::calls;
-use logs::inputs::{self, Kind};
+use logs::inputs::{self, Kind, Sample};
 use logs::random::Random;
+use second::order::Order;
 use second::replay::{lines, INPUT};
 use std::io::{self, ErrorKind, Write};
 use std::path::Path;
@@ -14,7 +16,7 @@ use std::process::{Child, Command, Stdio};
 use std::thread;
 use std::time::Duration;
 
-/// Logs of each generated kind.
+/// Little-endian logs of each generated kind; a big-endian one is enough.
 const EACH: usize = 10;
 /// Seeds tried for these, where many logs are longer than the program takes.
 const TRIES: u64 = 400;
@@ -38,25 +40,28 @@ struct Runs<'a> {
 pub fn run(program: &Path) -> Result<u64, String> {
     let mut runs = Runs {
         program,
-        kinds: Table::kinds("runs", "samples and edges"),
+        kinds: Table::kinds("samples and edges"),
         refusals: Table::refusals("refusals", [("program", entries::REPLAY_PROGRAM)]),
         runs: Table::counting("input", "runs", RUNS),
     };
     for kind in Kind::all() {
-        for (name, log) in generated(kind) {
-            // One run in three is fed in pieces.
-            let seed = runs.kinds.sum();
-            runs.one(kind.index(), &name, &parts(&log, seed, seed % 3 == 1))?;
+        for order in Order::ALL {
+            for (name, log) in generated(kind, order) {
+                // One run in three is fed in pieces.
+                let seed = runs.kinds.sum();
+                let parts = &parts(&log, seed, seed % 3 == 1);
+                runs.one(kind.index(), order, &name, parts)?;
+            }
         }
     }
     let mut others = edges();
     others.extend(inputs::samples()?);
     let row = Kind::all().len();
-    for (name, log) in others {
-        runs.one(row, &name, &[&log])?;
-        runs.one(row, &name, &parts(&log, runs.kinds.sum(), true))?;
+    for Sample { name, order, log } in others {
+        runs.one(row, order, &name, &[&log])?;
+        runs.one(row, order, &name, &parts(&log, runs.kinds.sum(), true))?;
         if log.len() > INPUT {
-            runs.one(row, &name, &[&log[..INPUT], &log[INPUT..]])?;
+            runs.one(row, order, &name, &[&log[..INPUT], &log[INPUT..]])?;
         }
     }
     suite::seen(&[&runs.kinds, &runs.refusals, &runs.runs])?;
@@ -64,11 +69,12 @@ pub fn run(program: &Path) -> Result<u64, String> {
 }
 
 impl Runs<'_> {
-    /// One run with an input of this row of the kinds.
-    fn one(&mut self, row: usize, name: &str, parts: &[&[u8]]) -> Result<(), String> {
-        let expected = lines(&parts.concat());
+    /// One run with an input of this row of the kinds, that was made in this
+    /// order.
+    fn one(&mut self, row: usize, order: Order, name: &str, parts: &[&[u8]]) -> Result<(), String> {
+        let expected = lines(&parts.concat(), Order::Little);
         compare(self.program, name, parts, &expected)?;
-        self.kinds.count(row, 0);
+        self.kinds.count(row, order as usize);
         self.runs.count(usize::from(parts.len() > 1), 0);
         let mut words = expected.split_whitespace();
         match (words.next(), words.next()) {
@@ -83,37 +89,48 @@ impl Runs<'_> {
     }
 }
 
-/// Logs of a kind that are short enough for the program; of a huge kind, one
-/// that isn't.
-fn generated(kind: Kind) -> Vec<(String, Vec<u8>)> {
-    let named = |seed| (format!("kind {}, seed {seed}", kind.name()), kind.log(seed));
+/// Logs of a kind and order that are short enough for the program; of a huge
+/// kind, one that isn't.
+fn generated(kind: Kind, order: Order) -> Vec<(String, Vec<u8>)> {
+    let named = |seed| {
+        let name = format!("kind {}, seed {seed}, {order:?}", kind.name());
+        (name, kind.log(seed, order))
+    };
     if kind.is_huge() {
         return vec![named(0)];
     }
     let logs = (0..TRIES).map(named);
+    let each = match order {
+        Order::Little => EACH,
+        Order::Big => 1,
+    };
     logs.filter(|(_, log)| log.len() <= INPUT)
-        .take(EACH)
+        .take(each)
         .collect()
 }
 
 /// Inputs at the edges of what the program takes.
-fn edges() -> Vec<(String, Vec<u8>)> {
+fn edges() -> Vec<Sample> {
     let mut logs = vec![Vec::new(), vec![1], vec![1; INPUT], vec![1; INPUT + 1]];
     for seed in 0..6 {
-        logs.push(calls::of_length(INPUT, seed));
-        logs.push(calls::of_length(INPUT + 1, seed));
+        logs.push(calls::of_length(INPUT, seed, Order::Little));
+        logs.push(calls::of_length(INPUT + 1, seed, Order::Little));
     }
     for length in [INPUT - 1, INPUT + 2, INPUT + 64, 100_000, 131_072, 1 << 20] {
-        logs.push(calls::of_length(length, 0));
+        logs.push(calls::of_length(length, 0, Order::Little));
     }
     // A log that is taken, and one byte more.
-    let mut more = calls::of_length(INPUT, 1);
+    let mut more = calls::of_length(INPUT, 1, Order::Little);
     more.push(0);
     logs.push(more);
-    let bare = calls::of_length(200, 0);
+    let bare = calls::of_length(200, 0, Order::Little);
     logs.push(bare[..31].to_vec());
     logs.push(bare[..32].to_vec());
-    let named = |log: Vec<u8>| (format!("edge of {} bytes", log.len()), log);
+    let named = |log: Vec<u8>| Sample {
+        name: format!("edge of {} bytes", log.len()),
+        order: Order::Little,
+        log,
+    };
     logs.into_iter().map(named).collect()
 }
 

@@ -1,8 +1,10 @@
 //! One log through the proved scrubber.
 
 use harness::answer;
+use harness::order;
 use harness::proved;
 use logs::random::Random;
+use second::order::Order;
 use second::scrub::{Kind, Part};
 
 /// Bytes on either side of a log, which must stay as they are.
@@ -18,15 +20,16 @@ pub struct Scrubbed<'a> {
 }
 
 impl Scrubbed<'_> {
-    /// Scrubs a copy of the log: first as a C program does, then for single
+    /// Scrubs a copy of the log in this order: first as a C program does, then for single
     /// numbers of the answer, one or all, on the same bytes. The text tells of
     /// a difference, without any of the log's bytes.
-    pub fn compare(&self, log: &[u8], random: &mut Random) -> Result<(), String> {
+    pub fn compare(&self, log: &[u8], order: Order, random: &mut Random) -> Result<(), String> {
         let mut lent = vec![GUARD; log.len() + 2 * AROUND];
         let own = AROUND..AROUND + log.len();
         lent[own.clone()].copy_from_slice(log);
         let list = answer::scrubbed(&self.answer);
-        let (number, place) = proved::scrub(&mut lent[own.clone()]);
+        let order = order::named(random, order);
+        let (number, place) = proved::scrub(&mut lent[own.clone()], order);
         if [u64::from(number), place] != list {
             return Err(format!("scrubber: {number} at {place}, expected {list:?}"));
         }
@@ -37,8 +40,8 @@ impl Scrubbed<'_> {
         }
         for which in asked {
             let log = &mut lent[own.clone()];
-            answer::same(&list, [which], |which| proved::scrub_number(log, which))
-                .map_err(|text| format!("scrubber: {text}"))?;
+            let ask = |which| proved::scrub_number(log, order, which);
+            answer::same(&list, [which], ask).map_err(|text| format!("scrubber: {text}"))?;
             self.compare_bytes(&lent)?;
         }
         Ok(())

@@ -1,15 +1,16 @@
-//! Measures the replay of logs: in memory the proved one, the second program's
-//! and the limit, and as processes the program of `host/` and `llvm-xray account`,
+//! Measures the replay of logs: in memory the proved one, on both byte orders,
+//! the second program's and the limit, and as processes the program of `host/` and `llvm-xray account`,
 //! which read the log from its file.
 
 use bench::limit;
 use bench::log::{Kind, Log};
 use bench::maker::FREQUENCY;
-use bench::measure::{clock, mean, passes, Input, Program};
+use bench::measure::{clock, mean, passes, Cost, Input, Program};
 use bench::process::{self, end, llvm_xray, towercloak, Words};
-use bench::table::{on_logs, Job, LIMIT, SECOND, TOWERCLOAK};
+use bench::table::{on_logs, Job, BIG_ENDIAN, LIMIT, SECOND, TOWERCLOAK};
 use bench::Fallible;
 use harness::proved;
+use second::order::Order;
 use second::replay::{Answer, ROW, TABLE};
 use std::path::Path;
 use std::process::ExitCode;
@@ -18,18 +19,22 @@ fn account(log: &Path) -> Words {
     llvm_xray(&["account", "--format=csv", "--sort=funcid"], log)
 }
 
-/// The replays must give the same table, in memory and as a process, and
-/// `llvm-xray` the same calls.
+/// The replays must give the same table, in memory, in both byte orders and as a
+/// process, and `llvm-xray` the same calls.
 fn check(log: &Log) -> Fallible<()> {
     let mut table = vec![0; TABLE];
-    let answer = second::replay::replay(&log.bytes, &mut table);
+    let answer = second::replay::replay(&log.bytes, Order::Little, &mut table);
     let Answer::Report { rows, records, .. } = answer else {
         return Err(format!("second: {answer:?}"));
     };
     let mut same = vec![0; TABLE];
-    let numbers = [0, 1, 3].map(|which| proved::replay(&log.bytes, &mut same, which));
-    if numbers != [0, rows, records] || same != table {
-        return Err(format!("towercloak: {numbers:?}, second: {answer:?}"));
+    for (order, bytes) in [(0, &log.bytes), (1, &log.turned)] {
+        same.fill(1);
+        let numbers = [0, 1, 3].map(|which| proved::replay(bytes, order, &mut same, which));
+        if numbers != [0, rows, records] || same != table {
+            let found = format!("{numbers:?} in order {order}");
+            return Err(format!("towercloak: {found}, second: {answer:?}"));
+        }
     }
     if !limit::replay(&log.bytes, &mut same) || same != table {
         return Err("limit: another table".to_string());
@@ -73,25 +78,31 @@ fn accounted(log: &Path, table: &[u64]) -> Fallible<()> {
 }
 
 fn in_memory(log: &Log) -> Input<'_> {
-    let replaying = |replay: fn(&[u8], &mut [u64])| {
+    fn replaying<'a>(
+        mib: usize,
+        log: &'a [u8],
+        replay: fn(&[u8], &mut [u64]),
+    ) -> impl FnMut() -> Fallible<Cost> + 'a {
         let mut table = vec![0; TABLE];
         move || {
-            let pass = || clock(|| replay(&log.bytes, &mut table));
-            Ok(mean(passes(log.mib), pass))
+            let pass = || clock(|| replay(log, &mut table));
+            Ok(mean(passes(mib), pass))
         }
-    };
-    let by_proved = |log: &[u8], table: &mut [u64]| assert_eq!(proved::replay(log, table, 0), 0);
+    }
+    let by_proved = |log: &[u8], table: &mut [u64]| assert_eq!(proved::replay(log, 0, table, 0), 0);
+    let in_big = |log: &[u8], table: &mut [u64]| assert_eq!(proved::replay(log, 1, table, 0), 0);
     let by_second = |log: &[u8], table: &mut [u64]| {
-        let answer = second::replay::replay(log, table);
+        let answer = second::replay::replay(log, Order::Little, table);
         assert!(matches!(answer, Answer::Report { .. }));
     };
     let by_limit = |log: &[u8], table: &mut [u64]| assert!(limit::replay(log, table));
     Input {
         bytes: log.bytes.len(),
         programs: vec![
-            Program::new(TOWERCLOAK, replaying(by_proved)),
-            Program::new(SECOND, replaying(by_second)),
-            Program::new(LIMIT, replaying(by_limit)),
+            Program::new(TOWERCLOAK, replaying(log.mib, &log.bytes, by_proved)),
+            Program::new(BIG_ENDIAN, replaying(log.mib, &log.turned, in_big)),
+            Program::new(SECOND, replaying(log.mib, &log.bytes, by_second)),
+            Program::new(LIMIT, replaying(log.mib, &log.bytes, by_limit)),
         ],
     }
 }

@@ -1,5 +1,5 @@
-//! Measures the scrubbing of logs: in memory the proved scrubber and the second
-//! program's, and as processes the program of `host/`, which writes a scrubbed
+//! Measures the scrubbing of logs: in memory the proved scrubber, on both byte
+//! orders, and the second program's, and as processes the program of `host/`, which writes a scrubbed
 //! copy, and `llvm-xray fdr-dump --verify`, which tests the log and prints it.
 //!
 //! `scrub`, or `scrub --before PROGRAM`, which only measures the program of
@@ -8,9 +8,11 @@
 use bench::log::{named, Kind, Log};
 use bench::measure::{clock, mean, passes, Cost, Input, Program};
 use bench::process::{self, end, llvm_xray, towercloak, Words};
-use bench::table::{on_logs, SECOND, TOWERCLOAK};
+use bench::table::{on_logs, BIG_ENDIAN, SECOND, TOWERCLOAK};
 use bench::Fallible;
 use harness::proved;
+use logs::turn::turned;
+use second::order::Order;
 use second::walk;
 use std::ffi::OsString;
 use std::path::{Path, PathBuf};
@@ -28,14 +30,19 @@ fn fdr_dump(log: &Path) -> Words {
     llvm_xray(&["fdr-dump", "--verify"], log)
 }
 
-/// The scrubbers must leave the same bytes, in memory and in the file, and
-/// `llvm-xray` must find as many records.
+/// The scrubbers must leave the same bytes, in memory, in both byte orders and in
+/// the file, and `llvm-xray` must find as many records.
 fn check(log: &Log) -> Fallible<()> {
     let (mut one, mut other) = (log.bytes.clone(), log.bytes.clone());
-    let (number, _) = proved::scrub(&mut one);
-    let answer = second::scrub::scrub(&mut other);
+    let (number, _) = proved::scrub(&mut one, 0);
+    let answer = second::scrub::scrub(&mut other, Order::Little);
     if number != 0 || answer.is_err() || one != other {
         return Err(format!("towercloak: {number}, second: {answer:?}"));
+    }
+    let mut big = log.turned.clone();
+    let (number, _) = proved::scrub(&mut big, 1);
+    if number != 0 || big != turned(&one, Order::Little) {
+        return Err(format!("towercloak, big-endian: {number}, or other bytes"));
     }
     let (scrub, result) = host(&log.path);
     process::output(&scrub)?;
@@ -44,7 +51,7 @@ fn check(log: &Log) -> Fallible<()> {
     if written != one {
         return Err(format!("{}: other bytes", result.display()));
     }
-    let (records, shown) = (walk::walk(&log.bytes).0.len(), shown(log)?);
+    let (records, shown) = (walk::walk(&log.bytes, Order::Little).0.len(), shown(log)?);
     match records == shown {
         true => Ok(()),
         false => Err(format!("{records} records, and llvm-xray shows {shown}")),
@@ -70,23 +77,29 @@ fn shown(log: &Log) -> Fallible<usize> {
 
 /// Each scrubs a fresh copy, and copying isn't timed.
 fn in_memory(log: &Log) -> Input<'_> {
-    let scrubbing = |scrub: fn(&mut [u8])| {
-        let mut copy = log.bytes.clone();
+    fn scrubbing<'a>(
+        mib: usize,
+        log: &'a [u8],
+        scrub: fn(&mut [u8]),
+    ) -> impl FnMut() -> Fallible<Cost> + 'a {
+        let mut copy = log.to_vec();
         move || {
             let pass = || {
-                copy.copy_from_slice(&log.bytes);
+                copy.copy_from_slice(log);
                 clock(|| scrub(&mut copy))
             };
-            Ok(mean(passes(log.mib), pass))
+            Ok(mean(passes(mib), pass))
         }
-    };
-    let by_proved = |log: &mut [u8]| assert_eq!(proved::scrub(log).0, 0);
-    let by_second = |log: &mut [u8]| assert!(second::scrub::scrub(log).is_ok());
+    }
+    let by_proved = |log: &mut [u8]| assert_eq!(proved::scrub(log, 0).0, 0);
+    let in_big = |log: &mut [u8]| assert_eq!(proved::scrub(log, 1).0, 0);
+    let by_second = |log: &mut [u8]| assert!(second::scrub::scrub(log, Order::Little).is_ok());
     Input {
         bytes: log.bytes.len(),
         programs: vec![
-            Program::new(TOWERCLOAK, scrubbing(by_proved)),
-            Program::new(SECOND, scrubbing(by_second)),
+            Program::new(TOWERCLOAK, scrubbing(log.mib, &log.bytes, by_proved)),
+            Program::new(BIG_ENDIAN, scrubbing(log.mib, &log.turned, in_big)),
+            Program::new(SECOND, scrubbing(log.mib, &log.bytes, by_second)),
         ],
     }
 }
