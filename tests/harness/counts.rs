@@ -146,12 +146,12 @@ impl Display for Table {
     fn fmt(&self, out: &mut Formatter) -> Result {
         let is_hit = |column: &usize| self.rows.iter().any(|row| row.can.contains(column));
         let shown: Vec<usize> = (0..self.columns.len()).filter(is_hit).collect();
-        write!(out, "{:<30}", self.heading)?;
+        write!(out, "{:<32}", self.heading)?;
         for column in &shown {
             write!(out, "{:>10}", self.columns[*column])?;
         }
         for row in &self.rows {
-            write!(out, "\n{:<30}", row.name)?;
+            write!(out, "\n{:<32}", row.name)?;
             for column in &shown {
                 match row.can.contains(column) {
                     true => write!(out, "{:>10}", row.counts[*column])?,

@@ -38,7 +38,7 @@ pub struct Counts {
     /// Pairs of well-formed logs by what was overwritten; the last row is for
     /// those of about 16 MiB.
     ways: Table,
-    /// By kind of the hidden bytes.
+    /// By kind of the hidden bytes and order.
     hidden: Table,
 }
 
@@ -46,12 +46,12 @@ impl Counts {
     pub fn new() -> Counts {
         let mut ways = Way::ALL.map(|way| format!("{way:?}")).to_vec();
         ways.push("in about 16 MiB".to_string());
-        let hidden = scrub::Kind::ALL.map(|kind| format!("{kind:?}"));
+        let hidden = scrub::Kind::ALL.map(|kind| ORDERS.map(|order| format!("{kind:?}, {order}")));
         Counts {
             kinds: Table::kinds("samples"),
             answers: Table::refusals_by_order("refusals", ANSWERS),
             ways: Table::grid("pairs by what is overwritten", &ORDERS, ways),
-            hidden: Table::grid("hidden", &HIDDEN, hidden),
+            hidden: Table::grid("hidden", &HIDDEN, hidden.concat()),
         }
     }
 
@@ -63,8 +63,9 @@ impl Counts {
         for part in hidden {
             let bytes = &log[part.bytes.clone()];
             let dirty = bytes.iter().filter(|byte| **byte != 0).count();
-            self.hidden.add(part.kind as usize, 0, bytes.len() as u64);
-            self.hidden.add(part.kind as usize, 1, dirty as u64);
+            let row = by_order(part.kind as usize, order);
+            self.hidden.add(row, 0, bytes.len() as u64);
+            self.hidden.add(row, 1, dirty as u64);
         }
     }
 
@@ -88,8 +89,8 @@ impl Counts {
         for part in hidden {
             let [one, other] = logs.map(|log| &log[part.bytes.clone()]);
             let changed = one.iter().zip(other).filter(|(one, other)| one != other);
-            self.hidden
-                .add(part.kind as usize, 2, changed.count() as u64);
+            let row = by_order(part.kind as usize, order);
+            self.hidden.add(row, 2, changed.count() as u64);
         }
     }
 
