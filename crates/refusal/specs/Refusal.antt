@@ -1,7 +1,7 @@
--- The numbered refusals (paper 01, "The numbered refusals"; paper 02, CR 2). Assumes nothing.
+-- The numbered refusals (paper 01, "The numbered refusals"; paper 02, CR 2 and CR 7). Assumes nothing.
 use Prim.Native.Nat.{ℕ}
 use Rattle.refusal.specs.declared.Refusal.{Refusal}
-use Rattle.refusal.specs.declared.Refusal.the-variants.{LogLength, Version, LogType, BufferSize, PastEnd, UnknownAction, Grammar, Thread, Clock, NoOpenCall, Depth, FunctionCount, Ticks, ShortTable, NoRoom, OutOfRange, NoUnit, NoMeasuredCall, UnknownKind}
+use Rattle.refusal.specs.declared.Refusal.the-variants.{LogLength, Version, LogType, BufferSize, PastEnd, UnknownAction, Grammar, Thread, Clock, NoOpenCall, Depth, FunctionCount, Ticks, ShortTable, NoRoom, OutOfRange, NoUnit, NoMeasuredCall, UnknownKind, TransitionTable, NoTransition, UnmatchedBits, PastWanted, BitsLeft}
 
 -- The paper's number of each.
 abbrev pub numberOf : Refusal → ℕ
@@ -24,3 +24,8 @@ numberOf OutOfRange = 16
 numberOf NoUnit = 17
 numberOf NoMeasuredCall = 18
 numberOf UnknownKind = 19
+numberOf TransitionTable = 40
+numberOf NoTransition = 41
+numberOf UnmatchedBits = 42
+numberOf PastWanted = 43
+numberOf BitsLeft = 44

@@ -22,6 +22,11 @@ pub enum Refusal {
     NoUnit,
     NoMeasuredCall,
     UnknownKind,
+    TransitionTable,
+    NoTransition,
+    UnmatchedBits,
+    PastWanted,
+    BitsLeft,
 }
 
 impl Refusal {
@@ -48,6 +53,11 @@ impl Refusal {
             Refusal::NoUnit => 17,
             Refusal::NoMeasuredCall => 18,
             Refusal::UnknownKind => 19,
+            Refusal::TransitionTable => 40,
+            Refusal::NoTransition => 41,
+            Refusal::UnmatchedBits => 42,
+            Refusal::PastWanted => 43,
+            Refusal::BitsLeft => 44,
         }
     }
 }
