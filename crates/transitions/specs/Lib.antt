@@ -1,3 +1,4 @@
 pub mod Table
 pub mod Walk
 pub mod Samples
+pub mod View

@@ -1,0 +1,7 @@
+pub mod Choices
+pub mod Coding
+pub mod Placing
+pub mod Clashing
+pub mod Stepping
+pub mod Walking
+pub mod Advancing

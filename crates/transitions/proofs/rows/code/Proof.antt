@@ -1,0 +1,43 @@
+-- `transitions::rows::code` meets its contract: a part of the table. Assumes nothing.
+use Rattle.transitions.specs.Table.{codeLength}
+use mathlib.Core.List.{List}
+use lib.ListN.{length, getD, take, drop, drop-of-length-le}
+use Prim.Native.Nat.{ℕ, _+_, _-_, _<_, _≤_}
+use mathlib.Core.Path.{_≡_, refl, sym, ap, _∙_, subst}
+use native.Mathlib.Omega.{arith}
+use borrow.Author.Needs.{needs}
+use Rattle.transitions.proofs.rows.code.Statement.{statement}
+use Rattle.transitions.proofs.rows.code.Tie as tie
+
+add-from : tie.Need-add-from
+add-from c = search needs
+
+list-at-requires : tie.Need-list-at-requires
+list-at-requires c κs = search needs
+
+mul-result : tie.Need-mul-result
+mul-result c = search needs
+
+sub-result : tie.Need-sub-result
+sub-result c = search needs
+
+part-result-start : tie.Need-part-result-start
+part-result-start c = search needs
+
+part-result-end : tie.Need-part-result-end
+part-result-end c = search needs
+
+returns : tie.Need-returns
+returns c = let t = (c .before .before .before) .args .table .now in let p : ℕ = (c .before .before .before) .args .p in let e : (c .before) .list-at .result - (p + 2) ≡ codeLength t p = omega arith in ap (λ (n : ℕ). take n (drop (p + 2) t)) e
+
+pub code-spec : {M : Type 1} → statement M
+code-spec =
+    tie.close
+    (tie.spec
+    add-from
+    list-at-requires
+    mul-result
+    sub-result
+    part-result-start
+    part-result-end
+    returns)

@@ -1,0 +1,75 @@
+// The row that a step goes along.
+ghost use mathlib.Core.Path.{_≡_};
+ghost use Prim.Native.Nat.{_≤_};
+ghost use lib.ListN.{length};
+ghost use Rattle.transitions.specs.Table.{behind, rowAt, rowsOf, any};
+ghost use Rattle.transitions.specs.Walk.{ofEdge, matches};
+ghost use Rattle.transitions.specs.View.{Sound, Matched, Sought};
+use crate::codes::leads;
+use crate::rows::after;
+use crate::rows::code;
+
+pub enum Match {
+    At(usize),
+    Nowhere,
+}
+
+pub enum Found {
+    Along(usize),
+    NoRow,
+    NoMatch,
+}
+
+fn row_matches(table: &[u64], p: usize, edge: u64, bits: &[u8]) -> bool
+    requires { ⌜ behind (now table) p ≤ length (now table) ⌝ }
+    ensures { λ r. ⌜ r ≡ matches edge (now (bits .entry)) (rowAt (now (table .entry)) p) ⌝ }
+{
+    let e = table[p];
+    if e != edge {
+        return false;
+    }
+    leads(code(table, p), bits)
+}
+
+fn has_row(table: &[u64], edge: u64) -> bool
+    requires { ⌜ Sound (now table) 0 ⌝ }
+    ensures { λ r. ⌜ r ≡ any (ofEdge edge) (rowsOf (now (table .entry))) ⌝ }
+{
+    let mut p: usize = 0;
+    while p < table.len() {
+        let e = table[p];
+        if e == edge {
+            return true;
+        }
+        p = after(table, p);
+    }
+    false
+}
+
+fn match_in(table: &[u64], edge: u64, bits: &[u8]) -> Match
+    requires { ⌜ Sound (now table) 0 ⌝ }
+    ensures { λ r. ⌜ Matched (now (table .entry)) edge (now (bits .entry)) r ⌝ }
+{
+    let mut p: usize = 0;
+    while p < table.len() {
+        if row_matches(table, p, edge, bits) {
+            return Match::At(p);
+        }
+        p = after(table, p);
+    }
+    Match::Nowhere
+}
+
+pub fn find(table: &[u64], edge: u64, bits: &[u8]) -> Found
+    requires { ⌜ Sound (now table) 0 ⌝ }
+    ensures { λ r. ⌜ Sought (now (table .entry)) edge (now (bits .entry)) r ⌝ }
+{
+    let m = match_in(table, edge, bits);
+    if let Match::At(p) = m {
+        return Found::Along(p);
+    }
+    if has_row(table, edge) {
+        return Found::NoMatch;
+    }
+    Found::NoRow
+}
