@@ -11,12 +11,13 @@ use Rattle.refusal.specs.Refusal.{numberOf}
 use Rattle.refusal.specs.declared.Refusal.{Refusal}
 use Rattle.refusal.specs.declared.Refusal.the-variants.{NoTransition, UnmatchedBits, PastWanted}
 use Rattle.transitions.specs.Table.{codeLength, listLength, codeAt, nextAt, rowAt, rowsOf, any, begins}
-use Rattle.transitions.specs.Walk.{Walk, listed, refused, Step, noRow, noMatch, along, ofEdge, matching, pick, stepOf, walkFrom, Answer, answerOf}
+use Rattle.transitions.specs.Walk.{Walk, listed, refused, Step, noRow, noMatch, along, ofEdge, matching, pick, stepOf, walkFrom, Answer, refusedBy, answerOf}
 use Rattle.transitions.specs.View.{Good, Matched, matchIs, Sought, stepIs, joined, Gone, Advanced}
 use Rattle.transitions.specs.declared.search.Match.{Match}
 use Rattle.transitions.specs.declared.search.Match.the-variants.{At, Nowhere}
 use Rattle.transitions.specs.declared.search.Found.{Found}
 use Rattle.transitions.specs.declared.search.Found.the-variants.{Along, NoRow, NoMatch}
+use Rattle.transitions.specs.declared.route.Advance.{Advance}
 use Rattle.transitions.specs.declared.route.Advance.the-variants.{Stop, Ahead}
 use Rattle.transitions.proofs.Coding.{begins-length}
 use Rattle.transitions.proofs.Placing.{code-length, next-length}
@@ -87,6 +88,14 @@ module _ (t : List ℕ) (e : ℕ) (bits : List ℕ) where
 -- The bits from a place on.
 pub rest-is : (bits : List ℕ) (at : ℕ) → take (length bits - at) (drop at bits) ≡ drop at bits
 rest-is bits at = take-all (length bits - at) (drop at bits) (omega (arith, length-drop at bits))
+
+-- What a step from a place of the bits tells.
+module _ (t bits : List ℕ) (e at left : ℕ) (a : Advance) (h : Advanced t e (take (length bits - at) (drop at bits)) left a) (pos : 0 < left) where
+  pub stops : (x : Refusal) → a ≡ Stop x → walkFrom (rowsOf t) e (drop at bits) [] left ≡ refused (numberOf x)
+  stops x k = subst (λ (l : List ℕ). walkFrom (rowsOf t) e l [] left ≡ refused (numberOf x)) (rest-is bits at) (h .stop x k pos)
+
+  pub goes : (p : ℕ) → a ≡ Ahead p → Gone t e (drop at bits) left p
+  goes p k = subst (λ (l : List ℕ). Gone t e l left p) (rest-is bits at) (h .row p k pos)
 
 -- A row is gone along: the list of its edges and the length of its code are known as edges and n.
 module _ (t bits : List ℕ) (e at left p n : ℕ) (edges : List ℕ) (inside : at ≤ length bits) (g : Gone t e (drop at bits) left p)

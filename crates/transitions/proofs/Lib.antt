@@ -5,3 +5,4 @@ pub mod Clashing
 pub mod Stepping
 pub mod Walking
 pub mod Advancing
+pub mod Filling

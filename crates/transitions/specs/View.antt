@@ -52,7 +52,7 @@ pub record Gone (t : List ℕ) (e : ℕ) (bits : List ℕ) (left p : ℕ) : Type
   pub fits : length (nextAt t p) ≤ left
   pub bitsFit : length (codeAt t p) ≤ length bits
   pub is : walkFrom (rowsOf t) e bits [] left
-    ≡ joined (nextAt t p) (walkFrom (rowsOf t) (getD (nextAt t p) (length (nextAt t p) - 1) 0) (drop (length (codeAt t p)) bits) [] (left - length (nextAt t p)))
+      ≡ joined (nextAt t p) (walkFrom (rowsOf t) (getD (nextAt t p) (length (nextAt t p) - 1) 0) (drop (length (codeAt t p)) bits) [] (left - length (nextAt t p)))
 
 -- Where another edge is wanted.
 pub record Advanced (t : List ℕ) (e : ℕ) (bits : List ℕ) (left : ℕ) (a : Advance) : Type 0 where

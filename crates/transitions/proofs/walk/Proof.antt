@@ -1,50 +1,46 @@
+-- `transitions::walk` meets its contract: test by test, then the walk. Assumes nothing.
+use Rattle.transitions.specs.Walk.{Walk, walkFrom, answerOf, toldBy, listAfter}
+use Rattle.transitions.specs.Table.{rowsOf}
+use Rattle.transitions.proofs.Filling.{no-room, no-table, walks, left-alone}
+use Rattle.transitions.proofs.Clashing.{table-sound}
+use mathlib.Core.List.{List, [], _++_}
+use lib.ListN.{length, getD, take, drop}
+use Prim.Native.Nat.{ℕ, _+_, _-_, _<_, _≤_}
+use mathlib.Core.Path.{_≡_, refl, sym, ap, _∙_, subst}
+use native.Mathlib.Omega.{arith}
 use borrow.Author.Needs.{needs}
 use Rattle.transitions.proofs.walk.Statement.{statement}
 use Rattle.transitions.proofs.walk.Tie as tie
-use Rattle.transitions.proofs.walk.Reads as reads
-use Rattle.transitions.proofs.walk.Lts as lts
-use Rattle.transitions.proofs.faults.bad_table.Reads as bad-table-reads
-use Rattle.transitions.proofs.route.fill.Reads as fill-reads
-use Rattle.transitions.proofs.route.follow.Reads as follow-reads
 
--- src/lib.rt:27:9
 returns : tie.Need-returns
-returns c = ?
+returns c = let e = no-room (c .before .before .before .before .args .table .now) (c .before .before .before .before .args .start) (c .before .before .before .before .args .bits .now) (c .before .before .before .before .args .wanted) (length (c .before .before .before .before .args .list .now)) (c .if1 .taken) in (sym (ap answerOf e), sym (ap (λ (w : Walk). listAfter w (c .before .before .before .before .args .list .now)) e))
 
--- src/lib.rt:29:8
 bad-table-requires : tie.Need-bad-table-requires
 bad-table-requires c κs = search needs
 
--- src/lib.rt:30:9
 returns-2 : tie.Need-returns-2
-returns-2 c = ?
+returns-2 c = let e = no-table (c .before .before .before .before .before .before .args .table .now) (c .before .before .before .before .before .before .args .start) (c .before .before .before .before .before .before .args .bits .now) (c .before .before .before .before .before .before .args .wanted) (length (c .before .before .before .before .before .before .args .list .now)) (c .before .before .if1 .left) (sym (c .before .bad-table .ensures) ∙ c .if2 .taken) in (sym (ap answerOf e), sym (ap (λ (w : Walk). listAfter w (c .before .before .before .before .before .before .args .list .now)) e))
 
--- src/lib.rt:32:9
 follow-requires : tie.Need-follow-requires
-follow-requires c κs = ?
+follow-requires c κs = table-sound (c .before .before .before .before .before .before .args .table .now) (sym (c .before .bad-table .ensures) ∙ c .if2 .left)
 
--- src/lib.rt:34:42
 enum-told : tie.Need-enum-told
 enum-told c = search needs
 
--- src/lib.rt:34:9
 fill-requires : tie.Need-fill-requires
-fill-requires c κs = ?
+fill-requires c κs = (table-sound (c .before .before .before .before .before .before .before .before .before .before .args .table .now) (sym (c .before .before .before .before .before .bad-table .ensures) ∙ c .before .before .before .before .if2 .left), c .before .before .before .before .before .before .if1 .left, sym (c .before .before .before .follow .ensures) ∙ ap toldBy (c .before .enum-told .given .1))
 
 enum-told-2 : tie.Need-enum-told-2
 enum-told-2 c = search needs
 
--- src/lib.rt:22:1
 same-length : tie.Need-same-length
 same-length c = search needs
 
--- src/lib.rt:22:1
 returns-3 : tie.Need-returns-3
-returns-3 c = ?
+returns-3 c = let e = walks (c .before .before .before .before .before .before .before .before .before .before .before .before .before .args .table .now) (c .before .before .before .before .before .before .before .before .before .before .before .before .before .args .start) (c .before .before .before .before .before .before .before .before .before .before .before .before .before .args .bits .now) (c .before .before .before .before .before .before .before .before .before .before .before .before .before .args .wanted) (length (c .before .before .before .before .before .before .before .before .before .before .before .before .before .args .list .now)) (c .before .before .before .before .before .before .before .before .before .if1 .left) (sym (c .before .before .before .before .before .before .before .before .bad-table .ensures) ∙ c .before .before .before .before .before .before .before .if2 .left) in (c .before .before .before .before .before .before .follow .ensures ∙ ap answerOf (sym e), c .before .before .fill .ensures ∙ ap (λ (w : Walk). listAfter w (c .before .before .before .before .before .before .before .before .before .before .before .before .before .args .list .now)) (sym e))
 
--- src/lib.rt:22:1
 returns-4 : tie.Need-returns-4
-returns-4 c = ?
+returns-4 c = let e = walks (c .before .before .before .before .before .before .before .before .before .args .table .now) (c .before .before .before .before .before .before .before .before .before .args .start) (c .before .before .before .before .before .before .before .before .before .args .bits .now) (c .before .before .before .before .before .before .before .before .before .args .wanted) (length (c .before .before .before .before .before .before .before .before .before .args .list .now)) (c .before .before .before .before .before .if1 .left) (sym (c .before .before .before .before .bad-table .ensures) ∙ c .before .before .before .if2 .left) in let l : List ℕ = c .before .before .before .before .before .before .before .before .before .args .list .now in (c .before .before .follow .ensures ∙ ap answerOf (sym e), left-alone (walkFrom (rowsOf (c .before .before .before .before .before .before .before .before .before .args .table .now)) (c .before .before .before .before .before .before .before .before .before .args .start) (c .before .before .before .before .before .before .before .before .before .args .bits .now) [] (c .before .before .before .before .before .before .before .before .before .args .wanted)) _ l (sym (ap toldBy (c .enum-told2 .given .1)) ∙ c .before .before .follow .ensures) ∙ ap (λ (w : Walk). listAfter w l) (sym e))
 
 pub walk-spec : {M : Type 1} → statement M
 walk-spec =

@@ -18,7 +18,7 @@ loop-holds : tie.Need-loop-holds Inv-loop μ-loop
 loop-holds c = (omega arith, refl)
 
 returns : tie.Need-returns Inv-loop μ-loop
-returns c = let s = (c .before .before .before) .args in let l = (c .before .before) .loop in sym (either-short (s .a .now) (s .b .now) (l .i) ((c .before) .loop-test .taken) (c .if1 .taken)) ∙ l .inv .1
+returns c = let s = c .before .before .before .args in let l = c .before .before .loop in sym (either-short (s .a .now) (s .b .now) (l .i) (c .before .loop-test .taken) (c .if1 .taken)) ∙ l .inv .1
 
 mul-x : tie.Need-mul-x Inv-loop μ-loop
 mul-x c = omega arith
@@ -33,7 +33,7 @@ shared-slice-read-y : tie.Need-shared-slice-read-y Inv-loop μ-loop
 shared-slice-read-y c = omega arith
 
 returns-2 : tie.Need-returns-2 Inv-loop μ-loop
-returns-2 c = let s = (c .before .before .before .before .before .before) .args in let l = (c .before .before .before .before .before) .loop in sym (either-differ (s .a .now) (s .b .now) (l .i) ((c .before .before .before .before) .loop-test .taken) ((c .before .before .before) .if1 .left) (c .if2 .taken)) ∙ l .inv .1
+returns-2 c = let s = c .before .before .before .before .before .before .args in let l = c .before .before .before .before .before .loop in sym (either-differ (s .a .now) (s .b .now) (l .i) (c .before .before .before .before .loop-test .taken) (c .before .before .before .if1 .left) (c .if2 .taken)) ∙ l .inv .1
 
 add-i : tie.Need-add-i Inv-loop μ-loop
 add-i c = omega arith
@@ -42,10 +42,10 @@ loop-less : tie.Need-loop-less Inv-loop μ-loop
 loop-less c = omega arith
 
 loop-again : tie.Need-loop-again Inv-loop μ-loop
-loop-again c = let s = (c .before .before .before .before .before .before) .args in let l = (c .before .before .before .before .before) .loop in (omega arith, either-same (s .a .now) (s .b .now) (l .i) ((c .before .before .before .before) .loop-test .taken) ((c .before .before .before) .if1 .left) (c .if2 .left) ∙ l .inv .1)
+loop-again c = let s = c .before .before .before .before .before .before .args in let l = c .before .before .before .before .before .loop in (omega arith, either-same (s .a .now) (s .b .now) (l .i) (c .before .before .before .before .loop-test .taken) (c .before .before .before .if1 .left) (c .if2 .left) ∙ l .inv .1)
 
 returns-3 : tie.Need-returns-3 Inv-loop μ-loop
-returns-3 c = let s = (c .before .before) .args in let l = (c .before) .loop in sym (either-end (s .a .now) (s .b .now) (l .i) (c .loop-test .left)) ∙ l .inv .1
+returns-3 c = let s = c .before .before .args in let l = c .before .loop in sym (either-end (s .a .now) (s .b .now) (l .i) (c .loop-test .left)) ∙ l .inv .1
 
 pub agree-spec : {M : Type 1} → statement M
 agree-spec =

@@ -19,7 +19,7 @@ loop-holds : tie.Need-loop-holds Inv-loop μ-loop
 loop-holds c = (omega arith, refl)
 
 returns : tie.Need-returns Inv-loop μ-loop
-returns c = let s = (c .before .before .before .before .before) .args in let l = (c .before .before) .loop in sym (leads-short (s .code .now) (s .bits .now) (l .i) ((c .before) .loop-test .taken) (c .if1 .taken)) ∙ l .inv .1
+returns c = let s = c .before .before .before .before .before .args in let l = c .before .before .loop in sym (leads-short (s .code .now) (s .bits .now) (l .i) (c .before .loop-test .taken) (c .if1 .taken)) ∙ l .inv .1
 
 mul-c : tie.Need-mul-c Inv-loop μ-loop
 mul-c c = omega arith
@@ -34,7 +34,7 @@ wide-requires : tie.Need-wide-requires Inv-loop μ-loop
 wide-requires c κs = tt
 
 returns-2 : tie.Need-returns-2 Inv-loop μ-loop
-returns-2 c = let s = (c .before .before .before .before .before .before .before .before .before) .args in let l = (c .before .before .before .before .before .before) .loop in sym (leads-differ (s .code .now) (s .bits .now) (l .i) ((c .before .before .before .before .before) .loop-test .taken) ((c .before .before .before .before) .if1 .left) (λ e. c .if2 .taken (e ∙ sym ((c .before) .wide .ensures)))) ∙ l .inv .1
+returns-2 c = let s = c .before .before .before .before .before .before .before .before .before .args in let l = c .before .before .before .before .before .before .loop in sym (leads-differ (s .code .now) (s .bits .now) (l .i) (c .before .before .before .before .before .loop-test .taken) (c .before .before .before .before .if1 .left) (λ e. c .if2 .taken (e ∙ sym (c .before .wide .ensures)))) ∙ l .inv .1
 
 add-i : tie.Need-add-i Inv-loop μ-loop
 add-i c = omega arith
@@ -43,10 +43,10 @@ loop-less : tie.Need-loop-less Inv-loop μ-loop
 loop-less c = omega arith
 
 loop-again : tie.Need-loop-again Inv-loop μ-loop
-loop-again c = let s = (c .before .before .before .before .before .before .before .before .before) .args in let l = (c .before .before .before .before .before .before) .loop in (omega arith, leads-same (s .code .now) (s .bits .now) (l .i) ((c .before .before .before .before .before) .loop-test .taken) ((c .before .before .before .before) .if1 .left) (c .if2 .left ∙ (c .before) .wide .ensures) ∙ l .inv .1)
+loop-again c = let s = c .before .before .before .before .before .before .before .before .before .args in let l = c .before .before .before .before .before .before .loop in (omega arith, leads-same (s .code .now) (s .bits .now) (l .i) (c .before .before .before .before .before .loop-test .taken) (c .before .before .before .before .if1 .left) (c .if2 .left ∙ c .before .wide .ensures) ∙ l .inv .1)
 
 returns-3 : tie.Need-returns-3 Inv-loop μ-loop
-returns-3 c = let s = (c .before .before .before .before) .args in let l = (c .before) .loop in sym (leads-end (s .code .now) (s .bits .now) (l .i) (c .loop-test .left)) ∙ l .inv .1
+returns-3 c = let s = c .before .before .before .before .args in let l = c .before .loop in sym (leads-end (s .code .now) (s .bits .now) (l .i) (c .loop-test .left)) ∙ l .inv .1
 
 pub leads-spec : {M : Type 1} → statement M
 leads-spec =

@@ -14,7 +14,7 @@ sub-left : tie.Need-sub-left
 sub-left c = search needs
 
 returns : tie.Need-returns
-returns c = bad-cut ((c .before .before) .args .table .now) ((c .before .before) .args .p) (omega arith)
+returns c = bad-cut (c .before .before .args .table .now) (c .before .before .args .p) (omega arith)
 
 add-long : tie.Need-add-long
 add-long c = search needs
@@ -26,13 +26,13 @@ shared-slice-read-long : tie.Need-shared-slice-read-long
 shared-slice-read-long c = search needs
 
 returns-2 : tie.Need-returns-2
-returns-2 c = bad-long ((c .before .before .before .before) .args .table .now) ((c .before .before .before .before) .args .p) (c .if2 .taken)
+returns-2 c = bad-long (c .before .before .before .before .args .table .now) (c .before .before .before .before .args .p) (c .if2 .taken)
 
 add-from : tie.Need-add-from
 add-from c = search needs
 
 returns-3 : tie.Need-returns-3
-returns-3 c = bad-cut ((c .before .before .before .before .before) .args .table .now) ((c .before .before .before .before .before) .args .p) (omega arith)
+returns-3 c = bad-cut (c .before .before .before .before .before .args .table .now) (c .before .before .before .before .before .args .p) (omega arith)
 
 add-at : tie.Need-add-at
 add-at c = search needs
@@ -53,7 +53,7 @@ strange-requires : tie.Need-strange-requires
 strange-requires c κs = search needs
 
 returns-4 : tie.Need-returns-4
-returns-4 c = let t = (c .before .before .before .before .before .before .before .before) .args .table .now in let p : ℕ = (c .before .before .before .before .before .before .before .before) .args .p in let e : p + 2 + codeLength t p - (p + 2) ≡ codeLength t p = omega arith in bad-code t p (ap (λ (n : ℕ). any noBit (take n (drop (p + 2) t))) (sym e) ∙ sym ((c .before) .strange .ensures) ∙ c .if4 .taken)
+returns-4 c = let t = c .before .before .before .before .before .before .before .before .args .table .now in let p : ℕ = c .before .before .before .before .before .before .before .before .args .p in let e : p + 2 + codeLength t p - (p + 2) ≡ codeLength t p = omega arith in bad-code t p (ap (λ (n : ℕ). any noBit (take n (drop (p + 2) t))) (sym e) ∙ sym (c .before .strange .ensures) ∙ c .if4 .taken)
 
 mul-n : tie.Need-mul-n
 mul-n c = search needs
@@ -62,13 +62,13 @@ shared-slice-read-n : tie.Need-shared-slice-read-n
 shared-slice-read-n c = search needs
 
 returns-5 : tie.Need-returns-5
-returns-5 c = bad-none ((c .before .before .before .before .before .before .before .before .before .before) .args .table .now) ((c .before .before .before .before .before .before .before .before .before .before) .args .p) (c .if5 .taken)
+returns-5 c = bad-none (c .before .before .before .before .before .before .before .before .before .before .args .table .now) (c .before .before .before .before .before .before .before .before .before .before .args .p) (c .if5 .taken)
 
 sub-room : tie.Need-sub-room
 sub-room c = search needs
 
 returns-6 : tie.Need-returns-6
-returns-6 c = let t = (c .before .before .before .before .before .before .before .before .before .before) .args .table .now in let p : ℕ = (c .before .before .before .before .before .before .before .before .before .before) .args .p in let e : p + 2 + codeLength t p - (p + 2) ≡ codeLength t p = omega arith in bad-room t p (length t - p - 3 - codeLength t p) (omega arith) ((c .before .before .before .before .before .before) .if2 .left) (ap (λ (n : ℕ). any noBit (take n (drop (p + 2) t))) (sym e) ∙ sym ((c .before .before .before) .strange .ensures) ∙ (c .before .before) .if4 .left) (c .if5 .left)
+returns-6 c = let t = c .before .before .before .before .before .before .before .before .before .before .args .table .now in let p : ℕ = c .before .before .before .before .before .before .before .before .before .before .args .p in let e : p + 2 + codeLength t p - (p + 2) ≡ codeLength t p = omega arith in bad-room t p (length t - p - 3 - codeLength t p) (omega arith) (c .before .before .before .before .before .before .if2 .left) (ap (λ (n : ℕ). any noBit (take n (drop (p + 2) t))) (sym e) ∙ sym (c .before .before .before .strange .ensures) ∙ c .before .before .if4 .left) (c .if5 .left)
 
 pub bad-row-spec : {M : Type 1} → statement M
 bad-row-spec =

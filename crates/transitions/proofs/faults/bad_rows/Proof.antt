@@ -23,19 +23,19 @@ bad-row-requires : tie.Need-bad-row-requires Inv-loop μ-loop
 bad-row-requires c κs = omega arith
 
 returns : tie.Need-returns Inv-loop μ-loop
-returns c = let t = (c .before .before .before .before .before) .args .table .now in let l = (c .before .before .before) .loop in sym (any-hit (badRow t) (l .p) (places t (behind t (l .p))) (places t (l .p)) (places-cons t (l .p) ((c .before .before) .loop-test .taken)) (sym ((c .before) .bad-row .ensures) ∙ c .if1 .taken)) ∙ l .inv
+returns c = let t = c .before .before .before .before .before .args .table .now in let l = c .before .before .before .loop in sym (any-hit (badRow t) (l .p) (places t (behind t (l .p))) (places t (l .p)) (places-cons t (l .p) (c .before .before .loop-test .taken)) (sym (c .before .bad-row .ensures) ∙ c .if1 .taken)) ∙ l .inv
 
 after-requires : tie.Need-after-requires Inv-loop μ-loop
-after-requires c κs = good ((c .before .before .before .before .before) .args .table .now) ((c .before .before .before) .loop .p) (sym ((c .before) .bad-row .ensures) ∙ c .if1 .left) .within
+after-requires c κs = good (c .before .before .before .before .before .args .table .now) (c .before .before .before .loop .p) (sym (c .before .bad-row .ensures) ∙ c .if1 .left) .within
 
 loop-less : tie.Need-loop-less Inv-loop μ-loop
 loop-less c = omega (arith, c .after .ensures)
 
 loop-again : tie.Need-loop-again Inv-loop μ-loop
-loop-again c = let t = (c .before .before .before .before .before .before) .args .table .now in let l = (c .before .before .before .before) .loop in ap (λ (n : ℕ). any (badRow t) (places t n)) (c .after .ensures) ∙ any-miss (badRow t) (l .p) (places t (behind t (l .p))) (places t (l .p)) (places-cons t (l .p) ((c .before .before .before) .loop-test .taken)) (sym ((c .before .before) .bad-row .ensures) ∙ (c .before) .if1 .left) ∙ l .inv
+loop-again c = let t = c .before .before .before .before .before .before .args .table .now in let l = c .before .before .before .before .loop in ap (λ (n : ℕ). any (badRow t) (places t n)) (c .after .ensures) ∙ any-miss (badRow t) (l .p) (places t (behind t (l .p))) (places t (l .p)) (places-cons t (l .p) (c .before .before .before .loop-test .taken)) (sym (c .before .before .bad-row .ensures) ∙ c .before .if1 .left) ∙ l .inv
 
 returns-2 : tie.Need-returns-2 Inv-loop μ-loop
-returns-2 c = let t = (c .before .before .before) .args .table .now in let l = (c .before) .loop in sym (any-none (badRow t) (places t (l .p)) (places-end t (l .p) (c .loop-test .left))) ∙ l .inv
+returns-2 c = let t = c .before .before .before .args .table .now in let l = c .before .loop in sym (any-none (badRow t) (places t (l .p)) (places-end t (l .p) (c .loop-test .left))) ∙ l .inv
 
 pub bad-rows-spec : {M : Type 1} → statement M
 bad-rows-spec =

@@ -14,14 +14,14 @@ bad-rows-requires : tie.Need-bad-rows-requires
 bad-rows-requires c κs = search needs
 
 returns : tie.Need-returns
-returns c = table-bad ((c .before .before .before) .args .table .now) (sym ((c .before) .bad-rows .ensures) ∙ c .if1 .taken)
+returns c = table-bad (c .before .before .before .args .table .now) (sym (c .before .bad-rows .ensures) ∙ c .if1 .taken)
 
 some-clash-requires : tie.Need-some-clash-requires
 unfolding Sound
-some-clash-requires c κs = sym ((c .before) .bad-rows .ensures) ∙ c .if1 .left
+some-clash-requires c κs = sym (c .before .bad-rows .ensures) ∙ c .if1 .left
 
 returns-2 : tie.Need-returns-2
-returns-2 c = c .some-clash .ensures ∙ table-clashes ((c .before .before .before .before) .args .table .now) (sym ((c .before .before) .bad-rows .ensures) ∙ (c .before) .if1 .left)
+returns-2 c = c .some-clash .ensures ∙ table-clashes (c .before .before .before .before .args .table .now) (sym (c .before .before .bad-rows .ensures) ∙ c .before .if1 .left)
 
 pub bad-table-spec : {M : Type 1} → statement M
 bad-table-spec = tie.close (tie.spec bad-rows-requires returns some-clash-requires returns-2)

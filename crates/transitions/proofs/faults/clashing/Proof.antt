@@ -25,7 +25,7 @@ shared-slice-read-f : tie.Need-shared-slice-read-f
 shared-slice-read-f c = search needs
 
 returns : tie.Need-returns
-returns c = let s = (c .before .before .before .before) .args in no-clash (rowAt (s .table .now) (s .p)) (rowAt (s .table .now) (s .q)) (c .if1 .taken)
+returns c = let s = c .before .before .before .before .args in no-clash (rowAt (s .table .now) (s .p)) (rowAt (s .table .now) (s .q)) (c .if1 .taken)
 
 code-requires : tie.Need-code-requires
 code-requires c κs = search needs
@@ -37,7 +37,7 @@ agree-requires : tie.Need-agree-requires
 agree-requires c κs = search needs
 
 returns-2 : tie.Need-returns-2
-returns-2 c = let s = (c .before .before .before .before .before .before .before) .args in c .agree .ensures ∙ ap₂ either ((c .before .before) .code .ensures) ((c .before) .code2 .ensures) ∙ clash-codes (rowAt (s .table .now) (s .p)) (rowAt (s .table .now) (s .q)) ((c .before .before .before) .if1 .left)
+returns-2 c = let s = c .before .before .before .before .before .before .before .args in c .agree .ensures ∙ ap₂ either (c .before .before .code .ensures) (c .before .code2 .ensures) ∙ clash-codes (rowAt (s .table .now) (s .p)) (rowAt (s .table .now) (s .q)) (c .before .before .before .if1 .left)
 
 pub clashing-spec : {M : Type 1} → statement M
 clashing-spec =

@@ -1,57 +1,54 @@
+-- `transitions::route::put` meets its contract: a copy, edge by edge. Assumes nothing.
+use lib.ListN.{set, length-set}
+use lib.Seq.{paste, paste-zero, paste-suc, take-length}
+use lib.ListN.{set, length-set}
+use native.Mathlib.Numerals.{add-one}
+use mathlib.Core.List.{List, [], _++_}
+use lib.ListN.{length, getD, take, drop}
+use Prim.Native.Nat.{ℕ, _+_, _-_, _<_, _≤_}
+use mathlib.Core.Path.{_≡_, refl, sym, ap, _∙_, subst}
+use native.Mathlib.Omega.{arith}
 use Rattle.transitions.proofs.route.put.Statement.{statement}
 use Rattle.transitions.proofs.route.put.Tie as tie
-use Rattle.transitions.proofs.route.put.Reads as reads
-use Rattle.transitions.proofs.route.put.Lts as lts
 
 abbrev Inv-loop : tie.InvT-loop
-Inv-loop list₀ at edges i₀ list i = ?
+Inv-loop list₀ at edges i₀ list i = (i ≤ length edges) × (list ≡ paste list₀ at edges i) × (length list ≡ length list₀)
 
 abbrev μ-loop : tie.MeasureT-loop
-μ-loop list₀ at edges i₀ list i = ?
+μ-loop list₀ at edges i₀ list i = length edges - i
 
--- src/route.rt:73:5
 loop-holds : tie.Need-loop-holds Inv-loop μ-loop
-loop-holds c = ?
+loop-holds c = let s = c .args in (omega arith, paste-zero (s .list .now) (s .at) (s .edges .now), refl)
 
--- src/route.rt:74:24
 mul-list : tie.Need-mul-list Inv-loop μ-loop
-mul-list c = ?
+mul-list c = omega arith
 
--- src/route.rt:74:24
 shared-slice-read-list : tie.Need-shared-slice-read-list Inv-loop μ-loop
-shared-slice-read-list c = ?
+shared-slice-read-list c = omega arith
 
--- src/route.rt:74:14
 add-list : tie.Need-add-list Inv-loop μ-loop
-add-list c = ?
+add-list c = omega arith
 
--- src/route.rt:74:9
 mul-list-2 : tie.Need-mul-list-2 Inv-loop μ-loop
-mul-list-2 c = ?
+mul-list-2 c = omega arith
 
--- src/route.rt:74:9
 slice-write-list : tie.Need-slice-write-list Inv-loop μ-loop
-slice-write-list c = ?
+slice-write-list c = omega arith
 
--- src/route.rt:75:9
 add-i : tie.Need-add-i Inv-loop μ-loop
-add-i c = ?
+add-i c = omega arith
 
--- src/route.rt:73:5
 loop-less : tie.Need-loop-less Inv-loop μ-loop
-loop-less c = ?
+loop-less c = omega arith
 
--- src/route.rt:73:5
 loop-again : tie.Need-loop-again Inv-loop μ-loop
-loop-again c = ?
+loop-again c = let s = c .before .before .before .args in let l = c .before .before .loop in let l₀ : List ℕ = s .list .now in let e : List ℕ = s .edges .now in (omega arith, ap (λ (m : List ℕ). set m (s .at + l .i) (getD e (l .i) 0)) (l .inv .1) ∙ paste-suc l₀ (s .at) e (l .i) 0 (omega arith) (c .before .loop-test .taken) ∙ ap (paste l₀ (s .at) e) (sym (add-one (l .i))), simp length-set (l .inv .2))
 
--- src/route.rt:68:1
 same-length : tie.Need-same-length Inv-loop μ-loop
-same-length c = ?
+same-length c = c .before .loop .inv .2
 
--- src/route.rt:68:1
 returns : tie.Need-returns Inv-loop μ-loop
-returns c = ?
+returns c = let s = c .before .before .args in let l = c .before .loop in let l₀ : List ℕ = s .list .now in let e : List ℕ = s .edges .now in let n : l .i ≡ length e = omega arith in l .inv .1 ∙ ap (paste l₀ (s .at) e) n ∙ ap (λ (m : List ℕ). take (s .at) l₀ ++ m ++ drop (s .at + length e) l₀) (take-length e)
 
 pub put-spec : {M : Type 1} → statement M
 put-spec =

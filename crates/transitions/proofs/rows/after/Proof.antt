@@ -24,10 +24,10 @@ add-result : tie.Need-add-result
 add-result c = search needs
 
 add-result-2 : tie.Need-add-result-2
-add-result-2 c = omega (arith, ap (λ (n : ℕ). getD ((c .before .before .before .before) .args .table .now) n 0) ((c .before .before) .list-at .ensures))
+add-result-2 c = omega (arith, ap (λ (n : ℕ). getD (c .before .before .before .before .args .table .now) n 0) (c .before .before .list-at .ensures))
 
 returns : tie.Need-returns
-returns c = omega (arith, ap (λ (n : ℕ). getD ((c .before .before .before .before) .args .table .now) n 0) ((c .before .before) .list-at .ensures))
+returns c = omega (arith, ap (λ (n : ℕ). getD (c .before .before .before .before .args .table .now) n 0) (c .before .before .list-at .ensures))
 
 pub after-spec : {M : Type 1} → statement M
 after-spec =

@@ -28,7 +28,7 @@ part-result-end : tie.Need-part-result-end
 part-result-end c = search needs
 
 returns : tie.Need-returns
-returns c = let t = (c .before .before .before) .args .table .now in let p : ℕ = (c .before .before .before) .args .p in let e : (c .before) .list-at .result - (p + 2) ≡ codeLength t p = omega arith in ap (λ (n : ℕ). take n (drop (p + 2) t)) e
+returns c = let t = c .before .before .before .args .table .now in let p : ℕ = c .before .before .before .args .p in let e : c .before .list-at .result - (p + 2) ≡ codeLength t p = omega arith in ap (λ (n : ℕ). take n (drop (p + 2) t)) e
 
 pub code-spec : {M : Type 1} → statement M
 code-spec =

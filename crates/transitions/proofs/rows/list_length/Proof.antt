@@ -21,7 +21,7 @@ index-requires : tie.Need-index-requires
 index-requires c κs = search needs
 
 returns : tie.Need-returns
-returns c = c .index .ensures ∙ ap (λ (n : ℕ). getD ((c .before .before .before .before) .args .table .now) n 0) ((c .before .before) .list-at .ensures)
+returns c = c .index .ensures ∙ ap (λ (n : ℕ). getD (c .before .before .before .before .args .table .now) n 0) (c .before .before .list-at .ensures)
 
 pub list-length-spec : {M : Type 1} → statement M
 list-length-spec =

@@ -31,7 +31,7 @@ part-result-end : tie.Need-part-result-end
 part-result-end c = search needs
 
 returns : tie.Need-returns
-returns c = let t = (c .before .before .before .before) .args .table .now in let p : ℕ = (c .before .before .before .before) .args .p in let e : (c .before) .after .result - ((c .before .before) .list-at .result + 1) ≡ listLength t p = omega arith in let f : (c .before .before) .list-at .result + 1 ≡ listAt t p + 1 = omega arith in ap (λ (n : ℕ). take n (drop ((c .before .before) .list-at .result + 1) t)) e ∙ ap (λ (n : ℕ). take (listLength t p) (drop n t)) f
+returns c = let t = c .before .before .before .before .args .table .now in let p : ℕ = c .before .before .before .before .args .p in let e : c .before .after .result - (c .before .before .list-at .result + 1) ≡ listLength t p = omega arith in let f : c .before .before .list-at .result + 1 ≡ listAt t p + 1 = omega arith in ap (λ (n : ℕ). take n (drop (c .before .before .list-at .result + 1) t)) e ∙ ap (λ (n : ℕ). take (listLength t p) (drop n t)) f
 
 pub next-spec : {M : Type 1} → statement M
 next-spec =

@@ -16,7 +16,7 @@ enum-known-m : tie.Need-enum-known-m
 enum-known-m c = search needs
 
 returns : tie.Need-returns
-returns c = let s = (c .before .before .before .before .before .before) .args in sought-along (s .table .now) (s .edge) (s .bits .now) ((c .before .before .before) .match-in .result) ((c .before .before .before) .match-in .ensures) _ ((c .before) .m .given .1)
+returns c = let s = c .before .before .before .before .before .before .args in sought-along (s .table .now) (s .edge) (s .bits .now) (c .before .before .before .match-in .result) (c .before .before .before .match-in .ensures) _ (c .before .m .given .1)
 
 enum-told : tie.Need-enum-told
 enum-told c = search needs
@@ -25,10 +25,10 @@ has-row-requires : tie.Need-has-row-requires
 has-row-requires c κs = search needs
 
 returns-2 : tie.Need-returns-2
-returns-2 c = let s = (c .before .before .before .before .before .before .before) .args in sought-unmatched (s .table .now) (s .edge) (s .bits .now) ((c .before .before .before .before) .match-in .result) ((c .before .before .before .before) .match-in .ensures) ((c .before .before) .enum-told .given .1) (sym ((c .before) .has-row .ensures) ∙ c .if1 .taken)
+returns-2 c = let s = c .before .before .before .before .before .before .before .args in sought-unmatched (s .table .now) (s .edge) (s .bits .now) (c .before .before .before .before .match-in .result) (c .before .before .before .before .match-in .ensures) (c .before .before .enum-told .given .1) (sym (c .before .has-row .ensures) ∙ c .if1 .taken)
 
 returns-3 : tie.Need-returns-3
-returns-3 c = let s = (c .before .before .before .before .before .before .before) .args in sought-nowhere (s .table .now) (s .edge) (s .bits .now) (sym ((c .before) .has-row .ensures) ∙ c .if1 .left)
+returns-3 c = let s = c .before .before .before .before .before .before .before .args in sought-nowhere (s .table .now) (s .edge) (s .bits .now) (sym (c .before .has-row .ensures) ∙ c .if1 .left)
 
 pub find-spec : {M : Type 1} → statement M
 find-spec =

@@ -20,7 +20,7 @@ abbrev μ-loop : tie.MeasureT-loop
 μ-loop table edge p₀ p = length table - p
 
 loop-holds : tie.Need-loop-holds Inv-loop μ-loop
-loop-holds c = ((c .before) .pre, refl)
+loop-holds c = (c .before .pre, refl)
 
 mul-e : tie.Need-mul-e Inv-loop μ-loop
 mul-e c = omega arith
@@ -29,19 +29,19 @@ shared-slice-read-e : tie.Need-shared-slice-read-e Inv-loop μ-loop
 shared-slice-read-e c = omega arith
 
 returns : tie.Need-returns Inv-loop μ-loop
-returns c = let s = (c .before .before .before .before .before) .args in let t = s .table .now in let l = (c .before .before .before) .loop in sym (any-hit (ofEdge (s .edge)) (rowAt t (l .p)) (rowsFrom t (behind t (l .p))) (rowsFrom t (l .p)) (rows-cons t (l .p) ((c .before .before) .loop-test .taken)) (for-edge (s .edge) (rowAt t (l .p)) (c .if1 .taken))) ∙ l .inv .1
+returns c = let s = c .before .before .before .before .before .args in let t = s .table .now in let l = c .before .before .before .loop in sym (any-hit (ofEdge (s .edge)) (rowAt t (l .p)) (rowsFrom t (behind t (l .p))) (rowsFrom t (l .p)) (rows-cons t (l .p) (c .before .before .loop-test .taken)) (for-edge (s .edge) (rowAt t (l .p)) (c .if1 .taken))) ∙ l .inv .1
 
 after-requires : tie.Need-after-requires Inv-loop μ-loop
-after-requires c κs = let l = (c .before .before .before) .loop in sound-good ((c .before .before .before .before .before) .args .table .now) (l .p) ((c .before .before) .loop-test .taken) (l .inv .0) .within
+after-requires c κs = let l = c .before .before .before .loop in sound-good (c .before .before .before .before .before .args .table .now) (l .p) (c .before .before .loop-test .taken) (l .inv .0) .within
 
 loop-less : tie.Need-loop-less Inv-loop μ-loop
 loop-less c = omega (arith, c .after .ensures)
 
 loop-again : tie.Need-loop-again Inv-loop μ-loop
-loop-again c = let s = (c .before .before .before .before .before .before) .args in let t = s .table .now in let l = (c .before .before .before .before) .loop in (subst (λ (n : ℕ). Sound t n) (sym (c .after .ensures)) (sound-on t (l .p) ((c .before .before .before) .loop-test .taken) (l .inv .0)), ap (λ (n : ℕ). any (ofEdge (s .edge)) (rowsFrom t n)) (c .after .ensures) ∙ any-miss (ofEdge (s .edge)) (rowAt t (l .p)) (rowsFrom t (behind t (l .p))) (rowsFrom t (l .p)) (rows-cons t (l .p) ((c .before .before .before) .loop-test .taken)) (not-for-edge (s .edge) (rowAt t (l .p)) ((c .before) .if1 .left)) ∙ l .inv .1)
+loop-again c = let s = c .before .before .before .before .before .before .args in let t = s .table .now in let l = c .before .before .before .before .loop in (subst (λ (n : ℕ). Sound t n) (sym (c .after .ensures)) (sound-on t (l .p) (c .before .before .before .loop-test .taken) (l .inv .0)), ap (λ (n : ℕ). any (ofEdge (s .edge)) (rowsFrom t n)) (c .after .ensures) ∙ any-miss (ofEdge (s .edge)) (rowAt t (l .p)) (rowsFrom t (behind t (l .p))) (rowsFrom t (l .p)) (rows-cons t (l .p) (c .before .before .before .loop-test .taken)) (not-for-edge (s .edge) (rowAt t (l .p)) (c .before .if1 .left)) ∙ l .inv .1)
 
 returns-2 : tie.Need-returns-2 Inv-loop μ-loop
-returns-2 c = let s = (c .before .before .before) .args in let t = s .table .now in let l = (c .before) .loop in sym (any-none (ofEdge (s .edge)) (rowsFrom t (l .p)) (rows-end t (l .p) (c .loop-test .left))) ∙ l .inv .1
+returns-2 c = let s = c .before .before .before .args in let t = s .table .now in let l = c .before .loop in sym (any-none (ofEdge (s .edge)) (rowsFrom t (l .p)) (rows-end t (l .p) (c .loop-test .left))) ∙ l .inv .1
 
 pub has-row-spec : {M : Type 1} → statement M
 has-row-spec =

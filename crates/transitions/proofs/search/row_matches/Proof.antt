@@ -17,7 +17,7 @@ shared-slice-read-e : tie.Need-shared-slice-read-e
 shared-slice-read-e c = search needs
 
 returns : tie.Need-returns
-returns c = let s = (c .before .before .before .before) .args in other-edge (s .edge) (s .bits .now) (rowAt (s .table .now) (s .p)) (c .if1 .taken)
+returns c = let s = c .before .before .before .before .args in other-edge (s .edge) (s .bits .now) (rowAt (s .table .now) (s .p)) (c .if1 .taken)
 
 code-requires : tie.Need-code-requires
 code-requires c κs = search needs
@@ -26,7 +26,7 @@ leads-requires : tie.Need-leads-requires
 leads-requires c κs = search needs
 
 returns-2 : tie.Need-returns-2
-returns-2 c = let s = (c .before .before .before .before .before .before) .args in c .leads .ensures ∙ ap (λ (l : List ℕ). begins l (s .bits .now)) ((c .before) .code .ensures) ∙ by-code (s .edge) (s .bits .now) (rowAt (s .table .now) (s .p)) ((c .before .before) .if1 .left)
+returns-2 c = let s = c .before .before .before .before .before .before .args in c .leads .ensures ∙ ap (λ (l : List ℕ). begins l (s .bits .now)) (c .before .code .ensures) ∙ by-code (s .edge) (s .bits .now) (rowAt (s .table .now) (s .p)) (c .before .before .if1 .left)
 
 pub row-matches-spec : {M : Type 1} → statement M
 row-matches-spec =
