@@ -13,10 +13,12 @@ mod reading;
 mod writing;
 
 use counts::Counts;
+use harness::order;
 use harness::suite::{self, Words};
 use logs::generate::{self, Kind};
 use logs::inputs::{halved, samples};
 use logs::random::Random;
+use logs::turn::turned;
 use reading::Reading;
 use second::order::Order;
 use std::process::ExitCode;
@@ -33,7 +35,15 @@ fn compare(
     name: &str,
     counts: &mut Counts,
 ) -> Result<(), String> {
-    let mut reading = Reading::new(log, order, Random::new(!seed), counts);
+    let random = &mut Random::new(!seed);
+    let mut reading = Reading {
+        log,
+        turned: &turned(log, order),
+        order,
+        named: [order, order.other()].map(|order| order::named(random, order)),
+        random,
+        counts,
+    };
     let compared = reading.run();
     compared.map_err(|text| {
         let name = format!("{name}, {order:?}");

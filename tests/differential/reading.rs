@@ -10,7 +10,6 @@ use harness::order;
 use harness::proved;
 use harness::state::At;
 use logs::random::Random;
-use logs::turn::turned;
 use second::header::{self, Header};
 use second::order::Order;
 use second::reader;
@@ -25,33 +24,17 @@ const TRIED_EVENTS: usize = 4;
 const TRIES: usize = 12;
 
 pub struct Reading<'a> {
-    log: &'a [u8],
+    pub log: &'a [u8],
     /// The same log in the other order.
-    turned: Vec<u8>,
-    order: Order,
+    pub turned: &'a [u8],
+    pub order: Order,
     /// The numbers that name the order, and the other one.
-    named: [u32; 2],
-    random: Random,
-    counts: &'a mut Counts,
+    pub named: [u32; 2],
+    pub random: &'a mut Random,
+    pub counts: &'a mut Counts,
 }
 
-impl<'a> Reading<'a> {
-    pub fn new(
-        log: &'a [u8],
-        order: Order,
-        mut random: Random,
-        counts: &'a mut Counts,
-    ) -> Reading<'a> {
-        Reading {
-            log,
-            turned: turned(log, order),
-            order,
-            named: [order, order.other()].map(|order| order::named(&mut random, order)),
-            random,
-            counts,
-        }
-    }
-
+impl Reading<'_> {
     /// Every comparison for this log; the text tells of a difference.
     pub fn run(&mut self) -> Result<(), String> {
         let met = match self.header()? {
@@ -62,9 +45,9 @@ impl<'a> Reading<'a> {
         self.at_fixed_places()?;
         for _ in 0..TRIES {
             let length = self.log.len() as u64;
-            let near = places::near(&mut self.random, &met, length);
-            let end = places::odd(&mut self.random, near.behind, length);
-            let place = places::odd(&mut self.random, near.at.place, length);
+            let near = places::near(self.random, &met, length);
+            let end = places::odd(self.random, near.behind, length);
+            let place = places::odd(self.random, near.at.place, length);
             self.record(end, place)?;
             self.odd_step(&near)?;
         }
@@ -90,10 +73,8 @@ impl<'a> Reading<'a> {
         let list = answer::header(&answer);
         let name = || "header".to_string();
         self.same(name, &list, |which| proved::header(log, own, which))?;
-        let turned = std::mem::take(&mut self.turned);
-        let name = || "header, turned".to_string();
-        self.same(name, &list, |which| proved::header(&turned, other, which))?;
-        self.turned = turned;
+        let (name, log) = (|| "header, turned".to_string(), self.turned);
+        self.same(name, &list, |which| proved::header(log, other, which))?;
         self.counts.answered(HEADER, self.order, list[0] as usize);
         Ok(answer)
     }
@@ -143,18 +124,15 @@ impl<'a> Reading<'a> {
                 *argument = argument.swap_bytes();
             }
         }
-        let list = answer::step(&step);
-        answer::same(&list, answer::all(&list), |which| {
-            proved::next(&self.turned, &at, which)
-        })
-        .map_err(|text| format!("next({at:?}), turned: {text}"))?;
+        let (list, log) = (answer::step(&step), self.turned);
+        let name = || format!("next({at:?}), turned");
         self.counts.met(TURNED, self.order, 1);
-        Ok(())
+        self.same(name, &list, |which| proved::next(log, &at, which))
     }
 
     /// A step from a position near to this record.
     fn odd_step(&mut self, near: &Met) -> Result<(), String> {
-        let at = places::position(&mut self.random, near, self.log, self.order);
+        let at = places::position(self.random, near, self.log, self.order);
         let order = order::of(at.order);
         match self.step(&at)? {
             Step::Over => self.counts.met(OVER, order, 1),

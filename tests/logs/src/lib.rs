@@ -1,5 +1,6 @@
 //! Logs from a seed, sound and damaged, for comparing the proved code with the
-//! second program: what the suites, the fuzzing and the benchmarks are fed.
+//! second program: what the suites, the fuzzing and the benchmarks are fed. They
+//! are of either byte order, and one can be turned into the other.
 
 #![forbid(unsafe_code)]
 
