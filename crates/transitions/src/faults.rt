@@ -54,7 +54,7 @@ fn bad_rows(table: &[u64]) -> bool
     false
 }
 
-fn clashing(table: &[u64], p: usize, q: usize) -> bool
+pub fn clashing(table: &[u64], p: usize, q: usize) -> bool
     requires { ⌜ (behind (now table) p ≤ length (now table)) × (behind (now table) q ≤ length (now table)) ⌝ }
     ensures { λ r. ⌜ r ≡ clash (rowAt (now (table .entry)) p) (rowAt (now (table .entry)) q) ⌝ }
 {

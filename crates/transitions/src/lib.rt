@@ -9,6 +9,9 @@ use route::follow;
 
 mod codes;
 mod faults;
+mod heap;
+mod index;
+mod order;
 mod route;
 mod rows;
 mod search;
