@@ -1,62 +1,55 @@
+-- `transitions::index::neighbours` meets its contract: neighbour by neighbour. Assumes nothing.
+use Rattle.transitions.proofs.Adjoining.{Apart, run-good, run-clashes, all-apart, apart-more}
+use Rattle.transitions.proofs.Ordering.{never}
+use mathlib.Core.List.{List, [], _∷_, _++_}
+use lib.ListN.{length, getD, take, drop}
+use Prim.Native.Nat.{ℕ, _+_, _-_, _<_, _≤_}
+use mathlib.Core.Path.{_≡_, refl, sym, ap, _∙_, subst}
+use native.Mathlib.Omega.{arith}
 use Rattle.transitions.proofs.index.neighbours.Statement.{statement}
 use Rattle.transitions.proofs.index.neighbours.Tie as tie
-use Rattle.transitions.proofs.index.neighbours.Reads as reads
-use Rattle.transitions.proofs.index.neighbours.Lts as lts
-use Rattle.transitions.proofs.faults.clashing.Reads as clashing-reads
 
 abbrev Inv-loop : tie.InvT-loop
-Inv-loop table run i₀ i = ?
+Inv-loop table run i₀ i = (1 ≤ i) × Apart table run i
 
 abbrev μ-loop : tie.MeasureT-loop
-μ-loop table run i₀ i = ?
+μ-loop table run i₀ i = length run - i
 
--- src/index.rt:43:5
 loop-holds : tie.Need-loop-holds Inv-loop μ-loop
-loop-holds c = ?
+loop-holds c = (omega arith, λ j h. absurd (omega arith))
 
--- src/index.rt:44:21
 sub-p : tie.Need-sub-p Inv-loop μ-loop
-sub-p c = ?
+sub-p c = omega arith
 
--- src/index.rt:44:17
 mul-p : tie.Need-mul-p Inv-loop μ-loop
-mul-p c = ?
+mul-p c = omega arith
 
--- src/index.rt:44:17
 shared-slice-read-p : tie.Need-shared-slice-read-p Inv-loop μ-loop
-shared-slice-read-p c = ?
+shared-slice-read-p c = omega arith
 
--- src/index.rt:45:17
 mul-q : tie.Need-mul-q Inv-loop μ-loop
-mul-q c = ?
+mul-q c = omega arith
 
--- src/index.rt:45:17
 shared-slice-read-q : tie.Need-shared-slice-read-q Inv-loop μ-loop
-shared-slice-read-q c = ?
+shared-slice-read-q c = omega arith
 
--- src/index.rt:46:12
 clashing-requires : tie.Need-clashing-requires Inv-loop μ-loop
-clashing-requires c κs = ?
+clashing-requires c κs = let s = c .before .before .before .before .before .before in let l = c .before .before .before .loop in let g = run-good (s .args .table .now) (s .args .run .now) (s .pre .1) (s .pre .0) in (g (l .i - 1) (omega arith) .within, g (l .i) (c .before .before .loop-test .taken) .within)
 
--- src/index.rt:47:13
 returns : tie.Need-returns Inv-loop μ-loop
-returns c = ?
+returns c = let s = c .before .before .before .before .before .before .before .before in let l = c .before .before .before .before .before .loop in sym (run-clashes (s .args .table .now) (s .args .run .now) (s .pre .1) (l .i - 1) (l .i) (omega arith) (c .before .before .before .before .loop-test .taken) (sym (c .before .clashing .ensures) ∙ c .if1 .taken))
 
--- src/index.rt:49:9
 add-i : tie.Need-add-i Inv-loop μ-loop
-add-i c = ?
+add-i c = omega arith
 
--- src/index.rt:43:5
 loop-less : tie.Need-loop-less Inv-loop μ-loop
-loop-less c = ?
+loop-less c = omega arith
 
--- src/index.rt:43:5
 loop-again : tie.Need-loop-again Inv-loop μ-loop
-loop-again c = ?
+loop-again c = let s = c .before .before .before .before .before .before .before .before in let l = c .before .before .before .before .before .loop in (omega arith, apart-more (s .args .table .now) (s .args .run .now) (s .pre .1) (l .i) (l .inv .0) (l .inv .1) (λ x. never (c .before .clashing .result) (c .if1 .left) (c .before .clashing .ensures ∙ x)))
 
--- src/index.rt:38:1
 returns-2 : tie.Need-returns-2 Inv-loop μ-loop
-returns-2 c = ?
+returns-2 c = let s = c .before .before .before .before in let l = c .before .loop in all-apart (s .args .table .now) (s .args .run .now) (s .pre .1) (l .i) (c .loop-test .left) (l .inv .1)
 
 pub neighbours-spec : {M : Type 1} → statement M
 neighbours-spec =

@@ -1,58 +1,55 @@
+-- `transitions::index::note` meets its contract: place by place. Assumes nothing.
+use Rattle.transitions.specs.View.{Sound}
+use Rattle.transitions.specs.Table.{places}
+use Rattle.transitions.proofs.Placing.{sound-good, sound-on, noted-on, noted-all}
+use Rattle.refusal.proofs.Cases.{clash}
+use lib.ListN.{length-set}
+use mathlib.Core.List.{List, [], _∷_, _++_}
+use lib.ListN.{length, getD, take, drop}
+use Prim.Native.Nat.{ℕ, _+_, _-_, _<_, _≤_}
+use mathlib.Core.Path.{_≡_, refl, sym, ap, _∙_, subst}
+use native.Mathlib.Omega.{arith}
 use Rattle.transitions.proofs.index.note.Statement.{statement}
 use Rattle.transitions.proofs.index.note.Tie as tie
-use Rattle.transitions.proofs.index.note.Reads as reads
-use Rattle.transitions.proofs.index.note.Lts as lts
-use Rattle.transitions.proofs.rows.after.Reads as after-reads
 
 abbrev Inv-loop : tie.InvT-loop
-Inv-loop table index₀ p₀ n₀ index p n = ?
+Inv-loop table index₀ p₀ n₀ index p n = Sound table p × (n ≤ length index) × (length index ≡ length index₀) × (take n index ++ places table p ≡ places table 0)
 
 abbrev μ-loop : tie.MeasureT-loop
-μ-loop table index₀ p₀ n₀ index p n = ?
+μ-loop table index₀ p₀ n₀ index p n = length table - p
 
--- src/index.rt:26:5
 loop-holds : tie.Need-loop-holds Inv-loop μ-loop
-loop-holds c = ?
+loop-holds c = (c .before .before .pre, omega arith, refl, refl)
 
--- src/index.rt:28:13
 same-length : tie.Need-same-length Inv-loop μ-loop
-same-length c = ?
+same-length c = c .before .before .loop .inv .2
 
--- src/index.rt:28:13
 returns : tie.Need-returns Inv-loop μ-loop
-returns c = ?
+returns c = record { room = λ n e. clash (cc); all = λ n e. clash (cc) }
 
--- src/index.rt:30:9
 mul-index : tie.Need-mul-index Inv-loop μ-loop
-mul-index c = ?
+mul-index c = omega arith
 
--- src/index.rt:30:9
 slice-write-index : tie.Need-slice-write-index Inv-loop μ-loop
-slice-write-index c = ?
+slice-write-index c = omega arith
 
--- src/index.rt:31:9
 add-n : tie.Need-add-n Inv-loop μ-loop
-add-n c = ?
+add-n c = omega arith
 
--- src/index.rt:32:9
 after-requires : tie.Need-after-requires Inv-loop μ-loop
-after-requires c κs = ?
+after-requires c κs = let l = c .before .before .loop in sound-good (c .before .before .before .before .before .args .table .now) (l .p) (c .before .loop-test .taken) (l .inv .0) .within
 
--- src/index.rt:26:5
 loop-less : tie.Need-loop-less Inv-loop μ-loop
-loop-less c = ?
+loop-less c = omega (arith, c .after .ensures)
 
--- src/index.rt:26:5
 loop-again : tie.Need-loop-again Inv-loop μ-loop
-loop-again c = ?
+loop-again c = let t = c .before .before .before .before .before .before .args .table .now in let l = c .before .before .before .loop in (subst (λ (m : ℕ). Sound t m) (sym (c .after .ensures)) (sound-on t (l .p) (c .before .before .loop-test .taken) (l .inv .0)), simp length-set (omega arith), simp length-set (l .inv .2), noted-on t (l .index) (l .p) (l .n) (c .after .result) (c .before .if1 .left) (c .before .before .loop-test .taken) (c .after .ensures) (l .inv .3))
 
--- src/index.rt:20:1
 same-length-2 : tie.Need-same-length-2 Inv-loop μ-loop
-same-length-2 c = ?
+same-length-2 c = c .before .loop .inv .2
 
--- src/index.rt:20:1
 returns-2 : tie.Need-returns-2 Inv-loop μ-loop
-returns-2 c = ?
+returns-2 c = let l = c .before .loop in let t = c .before .before .before .before .args .table .now in record { room = λ m e. let z : l .n ≡ m = cc in omega (arith, l .inv .1); all = λ m e. let z : l .n ≡ m = cc in ap (λ (k : ℕ). take k (l .index)) (sym z) ∙ noted-all t (l .index) (l .p) (l .n) (c .loop-test .left) (l .inv .3) }
 
 pub note-spec : {M : Type 1} → statement M
 note-spec =

@@ -1,38 +1,43 @@
+-- `transitions::order::against` meets its contract: by the edges, then the code and the bits. Assumes nothing.
+use Rattle.transitions.specs.Order.{Compared}
+use Rattle.transitions.specs.Key.{keyAt, Place}
+use Rattle.transitions.specs.Table.{codeAt}
+use Rattle.transitions.proofs.Comparing.{less-first, more-first, same-first}
+use mathlib.Core.List.{List, [], _∷_, _++_}
+use lib.ListN.{length, getD, take, drop}
+use Prim.Native.Nat.{ℕ, _+_, _-_, _<_, _≤_}
+use mathlib.Core.Path.{_≡_, refl, sym, ap, _∙_, subst}
+use native.Mathlib.Omega.{arith}
 use borrow.Author.Needs.{needs}
 use Rattle.transitions.proofs.order.against.Statement.{statement}
 use Rattle.transitions.proofs.order.against.Tie as tie
-use Rattle.transitions.proofs.order.against.Reads as reads
-use Rattle.transitions.proofs.order.against.Lts as lts
-use Rattle.transitions.proofs.order.by_bits.Reads as by-bits-reads
-use Rattle.transitions.proofs.rows.code.Reads as code-reads
 
--- src/order.rt:82:13
 mul-e : tie.Need-mul-e
-mul-e c = ?
+unfolding Place
+mul-e c = omega arith
 
--- src/order.rt:82:13
 shared-slice-read-e : tie.Need-shared-slice-read-e
-shared-slice-read-e c = ?
+unfolding Place
+shared-slice-read-e c = omega arith
 
--- src/order.rt:84:9
 returns : tie.Need-returns
-returns c = ?
+unfolding keyAt
+returns c = let s = c .before .before .before .before .args in let t = s .table .now in less-first (getD t (s .p) 0) (s .edge) (codeAt t (s .p)) (s .bits .now) (c .if1 .taken)
 
--- src/order.rt:87:9
 returns-2 : tie.Need-returns-2
-returns-2 c = ?
+unfolding keyAt
+returns-2 c = let s = c .before .before .before .before .before .args in let t = s .table .now in more-first (getD t (s .p) 0) (s .edge) (codeAt t (s .p)) (s .bits .now) (c .if2 .taken)
 
--- src/order.rt:89:13
 code-requires : tie.Need-code-requires
-code-requires c κs = ?
+unfolding Place
+code-requires c κs = c .before .before .before .before .before .pre
 
--- src/order.rt:89:5
 by-bits-requires : tie.Need-by-bits-requires
 by-bits-requires c κs = search needs
 
--- src/order.rt:78:1
 returns-3 : tie.Need-returns-3
-returns-3 c = ?
+unfolding keyAt
+returns-3 c = let s = c .before .before .before .before .before .before .before .args in let t = s .table .now in same-first (getD t (s .p) 0) (s .edge) (codeAt t (s .p)) (s .bits .now) (omega arith) (c .by-bits .result) (subst (λ (l : List ℕ). Compared (c .by-bits .result) l (s .bits .now)) (c .before .code .ensures) (c .by-bits .ensures))
 
 pub against-spec : {M : Type 1} → statement M
 against-spec =

@@ -1,65 +1,60 @@
+-- `transitions::order::by_codes` meets its contract: number by number. Assumes nothing.
+use Rattle.transitions.specs.Order.{Compared}
+use Rattle.transitions.proofs.Comparing.{rest-longer, rest-shorter, rest-same, rest-less, rest-more, rest-on}
+use Rattle.transitions.specs.declared.order.Order.the-variants.{Less, Same, More}
+use Rattle.transitions.specs.declared.order.Order.{Order}
+use mathlib.Core.List.{List, [], _∷_, _++_}
+use lib.ListN.{length, getD, take, drop}
+use Prim.Native.Nat.{ℕ, _+_, _-_, _<_, _≤_}
+use mathlib.Core.Path.{_≡_, refl, sym, ap, _∙_, subst}
+use native.Mathlib.Omega.{arith}
 use Rattle.transitions.proofs.order.by_codes.Statement.{statement}
 use Rattle.transitions.proofs.order.by_codes.Tie as tie
-use Rattle.transitions.proofs.order.by_codes.Reads as reads
-use Rattle.transitions.proofs.order.by_codes.Lts as lts
 
 abbrev Inv-loop : tie.InvT-loop
-Inv-loop a b i₀ i = ?
+Inv-loop a b i₀ i = (i ≤ length a) × ((o : Order) → Compared o (drop i a) (drop i b) → Compared o a b)
 
 abbrev μ-loop : tie.MeasureT-loop
-μ-loop a b i₀ i = ?
+μ-loop a b i₀ i = length a - i
 
--- src/order.rt:18:5
 loop-holds : tie.Need-loop-holds Inv-loop μ-loop
-loop-holds c = ?
+loop-holds c = (omega arith, λ o h. h)
 
--- src/order.rt:20:13
 returns : tie.Need-returns Inv-loop μ-loop
-returns c = ?
+returns c = c .before .before .loop .inv .1 More (rest-longer (c .before .before .before .args .a .now) (c .before .before .before .args .b .now) (c .before .before .loop .i) (c .before .loop-test .taken) (c .if1 .taken))
 
--- src/order.rt:22:17
 mul-x : tie.Need-mul-x Inv-loop μ-loop
-mul-x c = ?
+mul-x c = omega arith
 
--- src/order.rt:22:17
 shared-slice-read-x : tie.Need-shared-slice-read-x Inv-loop μ-loop
-shared-slice-read-x c = ?
+shared-slice-read-x c = omega arith
 
--- src/order.rt:23:17
 mul-y : tie.Need-mul-y Inv-loop μ-loop
-mul-y c = ?
+mul-y c = omega arith
 
--- src/order.rt:23:17
 shared-slice-read-y : tie.Need-shared-slice-read-y Inv-loop μ-loop
-shared-slice-read-y c = ?
+shared-slice-read-y c = omega arith
 
--- src/order.rt:25:13
 returns-2 : tie.Need-returns-2 Inv-loop μ-loop
-returns-2 c = ?
+returns-2 c = c .before .before .before .before .before .loop .inv .1 Less (rest-less (c .before .before .before .before .before .before .args .a .now) (c .before .before .before .before .before .before .args .b .now) (c .before .before .before .before .before .loop .i) (c .before .before .before .before .loop-test .taken) (c .before .before .before .if1 .left) (c .if2 .taken))
 
--- src/order.rt:28:13
 returns-3 : tie.Need-returns-3 Inv-loop μ-loop
-returns-3 c = ?
+returns-3 c = c .before .before .before .before .before .before .loop .inv .1 More (rest-more (c .before .before .before .before .before .before .before .args .a .now) (c .before .before .before .before .before .before .before .args .b .now) (c .before .before .before .before .before .before .loop .i) (c .before .before .before .before .before .loop-test .taken) (c .before .before .before .before .if1 .left) (c .if3 .taken))
 
--- src/order.rt:30:9
 add-i : tie.Need-add-i Inv-loop μ-loop
-add-i c = ?
+add-i c = omega arith
 
--- src/order.rt:18:5
 loop-less : tie.Need-loop-less Inv-loop μ-loop
-loop-less c = ?
+loop-less c = omega arith
 
--- src/order.rt:18:5
 loop-again : tie.Need-loop-again Inv-loop μ-loop
-loop-again c = ?
+loop-again c = (omega arith, λ o h. c .before .before .before .before .before .before .loop .inv .1 o (rest-on (c .before .before .before .before .before .before .before .args .a .now) (c .before .before .before .before .before .before .before .args .b .now) (c .before .before .before .before .before .before .loop .i) (c .before .before .before .before .before .loop-test .taken) (c .before .before .before .before .if1 .left) (omega arith) o h))
 
--- src/order.rt:33:9
 returns-4 : tie.Need-returns-4 Inv-loop μ-loop
-returns-4 c = ?
+returns-4 c = c .before .before .loop .inv .1 Less (rest-shorter (c .before .before .before .args .a .now) (c .before .before .before .args .b .now) (c .before .before .loop .i) (c .before .loop-test .left) (c .if4 .taken))
 
--- src/order.rt:14:1
 returns-5 : tie.Need-returns-5 Inv-loop μ-loop
-returns-5 c = ?
+returns-5 c = c .before .before .loop .inv .1 Same (rest-same (c .before .before .before .args .a .now) (c .before .before .before .args .b .now) (c .before .before .loop .i) (c .before .loop-test .left) (c .if4 .left))
 
 pub by-codes-spec : {M : Type 1} → statement M
 by-codes-spec =

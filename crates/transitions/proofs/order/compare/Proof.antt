@@ -1,50 +1,55 @@
+-- `transitions::order::compare` meets its contract: by the edges, then the codes. Assumes nothing.
+use Rattle.transitions.specs.Order.{Compared}
+use Rattle.transitions.specs.Key.{keyAt, Place}
+use Rattle.transitions.specs.Table.{codeAt}
+use Rattle.transitions.proofs.Comparing.{less-first, more-first, same-first}
+use mathlib.Core.List.{List, [], _∷_, _++_}
+use lib.ListN.{length, getD, take, drop}
+use Prim.Native.Nat.{ℕ, _+_, _-_, _<_, _≤_}
+use mathlib.Core.Path.{_≡_, refl, sym, ap, _∙_, subst}
+use native.Mathlib.Omega.{arith}
 use borrow.Author.Needs.{needs}
 use Rattle.transitions.proofs.order.compare.Statement.{statement}
 use Rattle.transitions.proofs.order.compare.Tie as tie
-use Rattle.transitions.proofs.order.compare.Reads as reads
-use Rattle.transitions.proofs.order.compare.Lts as lts
-use Rattle.transitions.proofs.order.by_codes.Reads as by-codes-reads
-use Rattle.transitions.proofs.rows.code.Reads as code-reads
 
--- src/order.rt:66:13
 mul-e : tie.Need-mul-e
-mul-e c = ?
+unfolding Place
+mul-e c = omega arith
 
--- src/order.rt:66:13
 shared-slice-read-e : tie.Need-shared-slice-read-e
-shared-slice-read-e c = ?
+unfolding Place
+shared-slice-read-e c = omega arith
 
--- src/order.rt:67:13
 mul-f : tie.Need-mul-f
-mul-f c = ?
+unfolding Place
+mul-f c = omega arith
 
--- src/order.rt:67:13
 shared-slice-read-f : tie.Need-shared-slice-read-f
-shared-slice-read-f c = ?
+unfolding Place
+shared-slice-read-f c = omega arith
 
--- src/order.rt:69:9
 returns : tie.Need-returns
-returns c = ?
+unfolding keyAt
+returns c = let s = c .before .before .before .before .args in let t = s .table .now in less-first (getD t (s .a) 0) (getD t (s .b) 0) (codeAt t (s .a)) (codeAt t (s .b)) (c .if1 .taken)
 
--- src/order.rt:72:9
 returns-2 : tie.Need-returns-2
-returns-2 c = ?
+unfolding keyAt
+returns-2 c = let s = c .before .before .before .before .before .args in let t = s .table .now in more-first (getD t (s .a) 0) (getD t (s .b) 0) (codeAt t (s .a)) (codeAt t (s .b)) (c .if2 .taken)
 
--- src/order.rt:74:14
 code-requires : tie.Need-code-requires
-code-requires c κs = ?
+unfolding Place
+code-requires c κs = c .before .before .before .before .before .pre .0
 
--- src/order.rt:74:30
 code-requires-2 : tie.Need-code-requires-2
-code-requires-2 c κs = ?
+unfolding Place
+code-requires-2 c κs = c .before .before .before .before .before .before .pre .1
 
--- src/order.rt:74:5
 by-codes-requires : tie.Need-by-codes-requires
 by-codes-requires c κs = search needs
 
--- src/order.rt:62:1
 returns-3 : tie.Need-returns-3
-returns-3 c = ?
+unfolding keyAt
+returns-3 c = let s = c .before .before .before .before .before .before .before .before .args in let t = s .table .now in same-first (getD t (s .a) 0) (getD t (s .b) 0) (codeAt t (s .a)) (codeAt t (s .b)) (omega arith) (c .by-codes .result) (subst (λ (l : List ℕ). Compared (c .by-codes .result) l (codeAt t (s .b))) (c .before .before .code .ensures) (subst (λ (m : List ℕ). Compared (c .by-codes .result) (c .before .before .code .result .now) m) (c .before .code2 .ensures) (c .by-codes .ensures)))
 
 pub compare-spec : {M : Type 1} → statement M
 compare-spec =
