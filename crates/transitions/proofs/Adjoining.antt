@@ -155,8 +155,8 @@ module _ (t : List ℕ) where
       by-lt (i .index) (j .index)
       (λ l. record { first = i .index; second = j .index; below = l; inside = omega (arith, j .inside); clashes = same })
       (λ l. by-eq (i .index) (j .index)
-        (λ e. absurd (omega (arith, h .below, d (h .first) (h .second) (omega (arith, h .below, h .inside)) (h .inside) (i .is ∙ ap (λ (n : ℕ). getD b n 0) e ∙ sym (j .is)))))
-        (λ ne. record { first = j .index; second = i .index; below = omega arith; inside = omega (arith, i .inside); clashes = clash-back (getD b (i .index) 0) (getD b (j .index) 0) same }))
+      (λ e. absurd (omega (arith, h .below, d (h .first) (h .second) (omega (arith, h .below, h .inside)) (h .inside) (i .is ∙ ap (λ (n : ℕ). getD b n 0) e ∙ sym (j .is)))))
+      (λ ne. record { first = j .index; second = i .index; below = omega arith; inside = omega (arith, i .inside); clashes = clash-back (getD b (i .index) 0) (getD b (j .index) 0) same }))
 
   -- No two neighbours before i clash.
   abbrev pub Apart : List ℕ → ℕ → Type 0
@@ -198,11 +198,11 @@ module _ (t : List ℕ) where
         let j : ℕ = h .second in
         let up : UpTo (key i) (key j) = r .sorted i j (h .below) (h .inside) .keys in
         let ahead : begins (key i) (key j) ≡ true = ⊎-elim (λ x. x)
-            (λ x. subst (λ (l : List ℕ). begins (key i) l ≡ true) (upTo-antisym (key i) (key j) up (begins-up (key j) (key i) x)) (begins-self (key i)))
-            (clash-keys (getD run i 0) (getD run j 0) (h .clashes)) in
+        (λ x. subst (λ (l : List ℕ). begins (key i) l ≡ true) (upTo-antisym (key i) (key j) up (begins-up (key j) (key i) x)) (begins-self (key i)))
+        (clash-keys (getD run i 0) (getD run j 0) (h .clashes)) in
         clash-of (getD run i 0) (getD run (i + 1) 0) (or-left (begins (key i) (key (i + 1))) (begins (key (i + 1)) (key i)) (by-eq (i + 1) j
-          (λ e. subst (λ (n : ℕ). begins (key i) (key n) ≡ true) (sym e) ahead)
-          (λ ne. between-begins (key i) (key (i + 1)) (key j) (r .sorted i (i + 1) (omega arith) (omega (arith, h .below, h .inside)) .keys) (r .sorted (i + 1) j (omega (arith, h .below)) (h .inside) .keys) ahead)))
+        (λ e. subst (λ (n : ℕ). begins (key i) (key n) ≡ true) (sym e) ahead)
+        (λ ne. between-begins (key i) (key (i + 1)) (key j) (r .sorted i (i + 1) (omega arith) (omega (arith, h .below, h .inside)) .keys) (r .sorted (i + 1) j (omega (arith, h .below)) (h .inside) .keys) ahead)))
 
     pub all-apart : (i : ℕ) → length run ≤ i → Apart run i → false ≡ clashes (rowsOf t)
     unfolding rowsFrom

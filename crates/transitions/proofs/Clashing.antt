@@ -6,7 +6,7 @@ use borrow.Author.Tests.{eq-eqb, ne-eqb}
 use Prim.Native.Nat.{ℕ}
 use Rattle.transitions.specs.Table.{Row, places, rowsOf, any, begins, badRow, clash, clashes, badTable}
 use Rattle.transitions.specs.View.{Sound}
-use Rattle.transitions.proofs.Choices.{or-left, or-false}
+use Rattle.transitions.proofs.Choices.{or-left}
 
 pub no-clash : (r s : Row) → (r .edge ≡ s .edge → ⊥) → false ≡ clash r s
 unfolding clash
@@ -31,14 +31,10 @@ clashes-none m is = rw is
 
 -- The table as a whole.
 module _ (t : List ℕ) where
-  pub table-bad : any (badRow t) (places t 0) ≡ true → true ≡ badTable t
+  pub table-bad : any (badRow t) (places t 0) ≡ true → badTable t ≡ true
   unfolding badTable
-  table-bad e = sym (or-left (any (badRow t) (places t 0)) (clashes (rowsOf t)) e)
+  table-bad e = or-left (any (badRow t) (places t 0)) (clashes (rowsOf t)) e
 
-  pub table-clashes : any (badRow t) (places t 0) ≡ false → clashes (rowsOf t) ≡ badTable t
-  unfolding badTable
-  table-clashes e = sym (rw e)
-
-  pub table-sound : badTable t ≡ false → Sound t 0
+  pub table-clashes : Sound t 0 → (b : Bool) → clashes (rowsOf t) ≡ b → badTable t ≡ b
   unfolding badTable Sound
-  table-sound e = or-false (any (badRow t) (places t 0)) (clashes (rowsOf t)) e .0
+  table-clashes s b e = rw s e

@@ -92,9 +92,9 @@ module _ (t run : List ℕ) (e : ℕ) (bits : List ℕ) (r : Run t run) (free : 
       let b : begins (key j) (e ∷ bits) ≡ true = sym (match-key t e bits (getD run j 0)) ∙ m in
       by-lt j u
       (λ l. by-eq j (u - 1)
-        (λ x. miss (omega arith) (subst (λ (n : ℕ). matches e bits (rowAt t (getD run n 0)) ≡ true) x m))
-        (λ x. let b2 = between-begins (key j) (key (u - 1)) (e ∷ bits) (r .sorted j (u - 1) (omega arith) (omega (arith, h .within)) .keys) (h .lower (u - 1) (omega arith)) b in
-        never (clashes (rowsOf t)) free (run-clashes t run r j (u - 1) (omega arith) (omega (arith, h .within)) (clash-of t (getD run j 0) (getD run (u - 1) 0) (or-left (begins (key j) (key (u - 1))) (begins (key (u - 1)) (key j)) b2)))))
+      (λ x. miss (omega arith) (subst (λ (n : ℕ). matches e bits (rowAt t (getD run n 0)) ≡ true) x m))
+      (λ x. let b2 = between-begins (key j) (key (u - 1)) (e ∷ bits) (r .sorted j (u - 1) (omega arith) (omega (arith, h .within)) .keys) (h .lower (u - 1) (omega arith)) b in
+      never (clashes (rowsOf t)) free (run-clashes t run r j (u - 1) (omega arith) (omega (arith, h .within)) (clash-of t (getD run j 0) (getD run (u - 1) 0) (or-left (begins (key j) (key (u - 1))) (begins (key (u - 1)) (key j)) b2)))))
       (λ l. let w = h .upper j l jl in w .1 (upTo-antisym (key j) (e ∷ bits) (begins-up (key j) (e ∷ bits) b) (w .0)))
 
   pub matched-nothing : (0 < u → matches e bits (rowAt t (getD run (u - 1) 0)) ≡ true → ⊥) → Matched t e bits Nowhere
@@ -108,7 +108,7 @@ module _ (t run : List ℕ) (e : ℕ) (bits : List ℕ) (r : Run t run) (free : 
       let w = run-row t run r (u - 1) (omega (arith, h .within)) in
       matched-at t e bits (getD run (u - 1) 0)
       (subst (λ (p : ℕ). along (rowAt t p) ≡ pick (matching e bits (rowsOf t))) (sym (w .is))
-        (only-match t e bits (places t 0) free (w .index) (w .inside) (subst (λ (p : ℕ). matches e bits (rowAt t p) ≡ true) (w .is) m)))
+      (only-match t e bits (places t 0) free (w .index) (w .inside) (subst (λ (p : ℕ). matches e bits (rowAt t p) ≡ true) (w .is) m)))
       (run-good t run r s (u - 1) (omega (arith, h .within)))
       (match-code e bits (rowAt t (getD run (u - 1) 0)) m)
 
@@ -117,15 +117,21 @@ module _ (t run : List ℕ) (e : ℕ) (bits : List ℕ) (r : Run t run) (free : 
   unfolding keyAt
   no-edge above below j jl x = by-lt j u
       (λ l. by-eq j (u - 1)
-        (λ y. below (omega arith) (subst (λ (n : ℕ). getD t (getD run n 0) 0 ≡ e) y x))
-        (λ y. below (omega arith) (omega (arith, x,
-          first-up (getD t (getD run j 0) 0) (getD t (getD run (u - 1) 0) 0) (codeAt t (getD run j 0)) (codeAt t (getD run (u - 1) 0)) (r .sorted j (u - 1) (omega arith) (omega (arith, h .within)) .keys),
-          first-up (getD t (getD run (u - 1) 0) 0) e (codeAt t (getD run (u - 1) 0)) bits (h .lower (u - 1) (omega arith))))))
+      (λ y. below (omega arith) (subst (λ (n : ℕ). getD t (getD run n 0) 0 ≡ e) y x))
+      (λ y. below (omega arith) (omega (
+        arith,
+        x,
+        first-up (getD t (getD run j 0) 0) (getD t (getD run (u - 1) 0) 0) (codeAt t (getD run j 0)) (codeAt t (getD run (u - 1) 0)) (r .sorted j (u - 1) (omega arith) (omega (arith, h .within)) .keys),
+        first-up (getD t (getD run (u - 1) 0) 0) e (codeAt t (getD run (u - 1) 0)) bits (h .lower (u - 1) (omega arith)),
+      ))))
       (λ l. by-eq u j
-        (λ y. above (omega arith) (subst (λ (n : ℕ). getD t (getD run n 0) 0 ≡ e) (sym y) x))
-        (λ y. above (omega arith) (omega (arith, x,
-          first-up (getD t (getD run u 0) 0) (getD t (getD run j 0) 0) (codeAt t (getD run u 0)) (codeAt t (getD run j 0)) (r .sorted u j (omega arith) jl .keys),
-          first-up e (getD t (getD run u 0) 0) bits (codeAt t (getD run u 0)) (h .upper u (omega arith) (omega arith) .0)))))
+      (λ y. above (omega arith) (subst (λ (n : ℕ). getD t (getD run n 0) 0 ≡ e) (sym y) x))
+      (λ y. above (omega arith) (omega (
+        arith,
+        x,
+        first-up (getD t (getD run u 0) 0) (getD t (getD run j 0) 0) (codeAt t (getD run u 0)) (codeAt t (getD run j 0)) (r .sorted u j (omega arith) jl .keys),
+        first-up e (getD t (getD run u 0) 0) bits (codeAt t (getD run u 0)) (h .upper u (omega arith) (omega arith) .0),
+      ))))
 
   pub edge-nowhere : (u < length run → getD t (getD run u 0) 0 ≡ e → ⊥) → (0 < u → getD t (getD run (u - 1) 0) 0 ≡ e → ⊥) → false ≡ any (ofEdge e) (rowsOf t)
   unfolding rowsFrom ofEdge

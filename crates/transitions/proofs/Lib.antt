@@ -12,3 +12,4 @@ pub mod Swapping
 pub mod Heaps
 pub mod Adjoining
 pub mod Halving
+pub mod Indexing

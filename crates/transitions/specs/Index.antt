@@ -3,7 +3,9 @@ use Prim.Native.Nat.{ℕ, _<_, _≤_}
 use mathlib.Core.Path.{_≡_}
 use mathlib.Core.List.{List, _∷_}
 use lib.ListN.{length, getD, take}
-use Rattle.transitions.specs.Table.{places}
+use mathlib.Core.Bool.{Bool, true, false}
+use Rattle.transitions.specs.Table.{places, rowsOf, clashes}
+use Rattle.transitions.specs.View.{Sound}
 use Rattle.transitions.specs.Key.{keyAt}
 use Rattle.transitions.specs.Order.{UpTo}
 use Rattle.transitions.specs.Sorting.{Swaps, Sorted}
@@ -22,6 +24,22 @@ pub record Run (t run : List ℕ) : Type 0 where
 -- The index, or nothing: a table of too many rows has none.
 abbrev pub Index : List ℕ → List ℕ → Type 0
 Index t run = 0 < length run → Run t run
+
+-- What a step requires: no row is bad by itself, and none clash.
+pub record Indexed (t run : List ℕ) : Type 0 where
+  pub sound : Sound t 0
+  pub free : clashes (rowsOf t) ≡ false
+  pub index : Index t run
+
+-- The first so many of the noted places are the index.
+pub record Ready (t : List ℕ) (n : ℕ) (index : List ℕ) : Type 0 where
+  pub room : n ≤ length index
+  pub ready : Index t (take n index)
+
+-- The row at an index is for an edge.
+pub record EdgeAt (t run : List ℕ) (i e : ℕ) (r : Bool) : Type 0 where
+  pub told : r ≡ true → (i < length run) × (getD t (getD run i 0) 0 ≡ e)
+  pub denied : r ≡ false → i < length run → getD t (getD run i 0) 0 ≡ e → ⊥
 
 -- So many rows of the run have keys up to this one, and the others come after it.
 pub record Halved (t run key : List ℕ) (u : ℕ) : Type 0 where

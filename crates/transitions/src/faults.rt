@@ -3,7 +3,7 @@ ghost use mathlib.Core.Path.{_≡_};
 ghost use mathlib.Core.Bool.{false};
 ghost use Prim.Native.Nat.{_<_, _≤_};
 ghost use lib.ListN.{length};
-ghost use Rattle.transitions.specs.Table.{behind, rowAt, places, rowsFrom, rowsOf, any, badRow, clash, clashes, badTable};
+ghost use Rattle.transitions.specs.Table.{behind, rowAt, places, rowsFrom, rowsOf, any, badRow, clash, clashes};
 ghost use Rattle.transitions.specs.View.{Sound};
 use crate::codes::agree;
 use crate::codes::strange;
@@ -41,7 +41,7 @@ pub fn bad_row(table: &[u64], p: usize) -> bool
     room < n
 }
 
-fn bad_rows(table: &[u64]) -> bool
+pub fn bad_rows(table: &[u64]) -> bool
     ensures { λ r. ⌜ r ≡ any (badRow (now (table .entry))) (places (now (table .entry)) 0) ⌝ }
 {
     let mut p: usize = 0;
@@ -81,7 +81,7 @@ fn clash_behind(table: &[u64], p: usize) -> bool
     false
 }
 
-fn some_clash(table: &[u64]) -> bool
+pub fn some_clash(table: &[u64]) -> bool
     requires { ⌜ Sound (now table) 0 ⌝ }
     ensures { λ r. ⌜ r ≡ clashes (rowsOf (now (table .entry))) ⌝ }
 {
@@ -93,13 +93,4 @@ fn some_clash(table: &[u64]) -> bool
         p = after(table, p);
     }
     false
-}
-
-pub fn bad_table(table: &[u64]) -> bool
-    ensures { λ r. ⌜ r ≡ badTable (now (table .entry)) ⌝ }
-{
-    if bad_rows(table) {
-        return true;
-    }
-    some_clash(table)
 }

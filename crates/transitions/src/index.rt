@@ -6,8 +6,10 @@ ghost use Prim.Native.Nat.{_<_};
 ghost use lib.ListN.{length};
 ghost use Rattle.transitions.specs.Table.{rowsOf, clashes};
 ghost use Rattle.transitions.specs.View.{Sound};
-ghost use Rattle.transitions.specs.Index.{Noting, Run, Halved};
+ghost use Rattle.transitions.specs.Index.{Noting, Run, Index, Ready, Halved};
 use crate::faults::clashing;
+use crate::faults::some_clash;
+use crate::heap::sort;
 use crate::order::Order;
 use crate::order::against;
 use crate::rows::after;
@@ -75,4 +77,28 @@ pub fn upper(table: &[u64], run: &[usize], edge: u64, bits: &[u8]) -> usize
         }
     }
     low
+}
+
+// Whether two rows of the table clash: by its index, or each row with each.
+pub fn clash_in(table: &[u64], run: &[usize]) -> bool
+    requires { ⌜ Sound (now table) 0 × Index (now table) (now run) ⌝ }
+    ensures { λ r. ⌜ r ≡ clashes (rowsOf (now (table .entry))) ⌝ }
+{
+    if run.len() == 0 {
+        return some_clash(table);
+    }
+    neighbours(table, run)
+}
+
+// Makes the index, where there is room for it, and tells how many rows it has.
+pub fn index_rows(table: &[u64], index: &mut [usize]) -> usize
+    requires { ⌜ Sound (now table) 0 ⌝ }
+    ensures { λ r. ⌜ Ready (now (table .entry)) r (now (index .exit)) ⌝ }
+{
+    let noted = note(table, index);
+    let Noted::Rows(n) = noted else {
+        return 0;
+    };
+    sort(table, &mut index[..n]);
+    n
 }

@@ -1,8 +1,13 @@
 // A walk of a transition table: the edges that a string of bits leads along.
 ghost use mathlib.Core.Path.{_≡_};
+ghost use Prim.Native.Nat.{_≤_};
 ghost use lib.ListN.{length};
 ghost use Rattle.transitions.specs.Walk.{walkOf, answerOf, toldBy, listAfter};
-use faults::bad_table;
+ghost use Rattle.transitions.specs.View.{Sound};
+ghost use Rattle.transitions.specs.Index.{Index};
+use faults::bad_rows;
+use index::clash_in;
+use index::index_rows;
 use refusal::Refusal;
 use route::fill;
 use route::follow;
@@ -21,7 +26,33 @@ pub enum Walked {
     Refused(Refusal),
 }
 
-// Lists the wanted number of edges behind the starting one. The list is written once the whole walk is known.
+// The most rows that are sorted.
+const ROWS: usize = 65536;
+
+// Behind the tests of single rows. The list is written once the whole walk is known.
+fn walk_rows(
+    table: &[u64],
+    run: &[usize],
+    start: u64,
+    bits: &[u8],
+    wanted: usize,
+    list: &mut [u64],
+) -> Walked
+    requires { ⌜ Sound (now table) 0 × Index (now table) (now run) × (wanted ≤ length (now list)) ⌝ }
+    ensures { λ r. ⌜ toldBy r ≡ answerOf (walkOf (now (table .entry)) start (now (bits .entry)) wanted (length (now (list .entry)))) ⌝ }
+    ensures { λ r. ⌜ now (list .exit) ≡ listAfter (walkOf (now (table .entry)) start (now (bits .entry)) wanted (length (now (list .entry)))) (now (list .entry)) ⌝ }
+{
+    if clash_in(table, run) {
+        return Walked::Refused(Refusal::TransitionTable);
+    }
+    let end = follow(table, run, start, bits, wanted);
+    if let Walked::Listed = end {
+        fill(table, run, start, bits, wanted, list);
+    }
+    end
+}
+
+// Lists the wanted number of edges behind the starting one.
 pub fn walk(table: &[u64], start: u64, bits: &[u8], wanted: usize, list: &mut [u64]) -> Walked
     ensures { λ r. ⌜ toldBy r ≡ answerOf (walkOf (now (table .entry)) start (now (bits .entry)) wanted (length (now (list .entry)))) ⌝ }
     ensures { λ r. ⌜ now (list .exit) ≡ listAfter (walkOf (now (table .entry)) start (now (bits .entry)) wanted (length (now (list .entry)))) (now (list .entry)) ⌝ }
@@ -29,12 +60,10 @@ pub fn walk(table: &[u64], start: u64, bits: &[u8], wanted: usize, list: &mut [u
     if list.len() < wanted {
         return Walked::Refused(Refusal::ShortTable);
     }
-    if bad_table(table) {
+    if bad_rows(table) {
         return Walked::Refused(Refusal::TransitionTable);
     }
-    let end = follow(table, start, bits, wanted);
-    if let Walked::Listed = end {
-        fill(table, start, bits, wanted, list);
-    }
-    end
+    let mut index = [0usize; ROWS];
+    let rows = index_rows(table, &mut index);
+    walk_rows(table, &index[..rows], start, bits, wanted, list)
 }

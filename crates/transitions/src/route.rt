@@ -5,7 +5,8 @@ ghost use Prim.Native.Nat.{_+_, _≤_};
 ghost use lib.ListN.{length, take, drop};
 ghost use Rattle.transitions.specs.Table.{rowsOf};
 ghost use Rattle.transitions.specs.Walk.{walkFrom, accepted, answerOf, toldBy, listAfter};
-ghost use Rattle.transitions.specs.View.{Sound, Advanced};
+ghost use Rattle.transitions.specs.View.{Advanced};
+ghost use Rattle.transitions.specs.Index.{Indexed};
 use crate::Walked;
 use crate::rows::code_length;
 use crate::rows::next;
@@ -19,11 +20,11 @@ pub enum Advance {
 }
 
 // The next row, where its list is within the edges still wanted.
-fn next_row(table: &[u64], edge: u64, bits: &[u8], left: usize) -> Advance
-    requires { ⌜ Sound (now table) 0 ⌝ }
+fn next_row(table: &[u64], run: &[usize], edge: u64, bits: &[u8], left: usize) -> Advance
+    requires { ⌜ Indexed (now table) (now run) ⌝ }
     ensures { λ r. ⌜ Advanced (now (table .entry)) edge (now (bits .entry)) left r ⌝ }
 {
-    let found = find(table, edge, bits);
+    let found = find(table, run, edge, bits);
     match found {
         Found::NoRow => Advance::Stop(Refusal::NoTransition),
         Found::NoMatch => Advance::Stop(Refusal::UnmatchedBits),
@@ -38,15 +39,15 @@ fn next_row(table: &[u64], edge: u64, bits: &[u8], left: usize) -> Advance
 }
 
 // How the walk ends.
-pub fn follow(table: &[u64], start: u64, bits: &[u8], wanted: usize) -> Walked
-    requires { ⌜ Sound (now table) 0 ⌝ }
+pub fn follow(table: &[u64], run: &[usize], start: u64, bits: &[u8], wanted: usize) -> Walked
+    requires { ⌜ Indexed (now table) (now run) ⌝ }
     ensures { λ r. ⌜ toldBy r ≡ answerOf (walkFrom (rowsOf (now (table .entry))) start (now (bits .entry)) [] wanted) ⌝ }
 {
     let mut edge = start;
     let mut at: usize = 0;
     let mut left = wanted;
     while 0 < left {
-        let step = next_row(table, edge, &bits[at..], left);
+        let step = next_row(table, run, edge, &bits[at..], left);
         match step {
             Advance::Stop(refusal) => {
                 return Walked::Refused(refusal);
@@ -77,15 +78,15 @@ fn put(list: &mut [u64], at: usize, edges: &[u64])
 }
 
 // The edges of an accepted walk.
-pub fn fill(table: &[u64], start: u64, bits: &[u8], wanted: usize, list: &mut [u64])
-    requires { ⌜ Sound (now table) 0 × (wanted ≤ length (now list)) × (answerOf (walkFrom (rowsOf (now table)) start (now bits) [] wanted) ≡ accepted) ⌝ }
+pub fn fill(table: &[u64], run: &[usize], start: u64, bits: &[u8], wanted: usize, list: &mut [u64])
+    requires { ⌜ Indexed (now table) (now run) × (wanted ≤ length (now list)) × (answerOf (walkFrom (rowsOf (now table)) start (now bits) [] wanted) ≡ accepted) ⌝ }
     ensures { λ _. ⌜ now (list .exit) ≡ listAfter (walkFrom (rowsOf (now (table .entry))) start (now (bits .entry)) [] wanted) (now (list .entry)) ⌝ }
 {
     let mut edge = start;
     let mut at: usize = 0;
     let mut done: usize = 0;
     while done < wanted {
-        let step = next_row(table, edge, &bits[at..], wanted - done);
+        let step = next_row(table, run, edge, &bits[at..], wanted - done);
         let Advance::Ahead(p) = step else {
             return;
         };

@@ -14,16 +14,16 @@ use Rattle.transitions.proofs.route.follow.Statement.{statement}
 use Rattle.transitions.proofs.route.follow.Tie as tie
 
 abbrev Inv-loop : tie.InvT-loop
-Inv-loop table start bits wanted edge₀ at₀ left₀ edge at left = (at ≤ length bits) × (answerOf (walkFrom (rowsOf table) edge (drop at bits) [] left) ≡ answerOf (walkFrom (rowsOf table) start bits [] wanted))
+Inv-loop table run start bits wanted edge₀ at₀ left₀ edge at left = (at ≤ length bits) × (answerOf (walkFrom (rowsOf table) edge (drop at bits) [] left) ≡ answerOf (walkFrom (rowsOf table) start bits [] wanted))
 
 abbrev μ-loop : tie.MeasureT-loop
-μ-loop table start bits wanted edge₀ at₀ left₀ edge at left = left
+μ-loop table run start bits wanted edge₀ at₀ left₀ edge at left = left
 
-gone : (c : tie.After-known-told2 Inv-loop μ-loop) → Gone (c .before .before .before .before .before .before .before .before .before .args .table .now) (c .before .before .before .before .before .before .loop .edge) (drop (c .before .before .before .before .before .before .loop .at) (c .before .before .before .before .before .before .before .before .before .args .bits .now)) (c .before .before .before .before .before .before .loop .left) (c .before .step2 .given .0 .0)
-gone c = goes (c .before .before .before .before .before .before .before .before .before .args .table .now) (c .before .before .before .before .before .before .before .before .before .args .bits .now) (c .before .before .before .before .before .before .loop .edge) (c .before .before .before .before .before .before .loop .at) (c .before .before .before .before .before .before .loop .left) (c .before .before .before .next-row .result) (c .before .before .before .next-row .ensures) (c .before .before .before .before .before .loop-test .taken) (c .before .step2 .given .0 .0) (c .before .step2 .given .1)
+gone : (c : tie.After-known-told2 Inv-loop μ-loop) → Gone (c .before .before .before .before .before .before .before .before .before .before .args .table .now) (c .before .before .before .before .before .before .loop .edge) (drop (c .before .before .before .before .before .before .loop .at) (c .before .before .before .before .before .before .before .before .before .before .args .bits .now)) (c .before .before .before .before .before .before .loop .left) (c .before .step2 .given .0 .0)
+gone c = goes (c .before .before .before .before .before .before .before .before .before .before .args .table .now) (c .before .before .before .before .before .before .before .before .before .before .args .bits .now) (c .before .before .before .before .before .before .loop .edge) (c .before .before .before .before .before .before .loop .at) (c .before .before .before .before .before .before .loop .left) (c .before .before .before .next-row .result) (c .before .before .before .next-row .ensures) (c .before .before .before .before .before .loop-test .taken) (c .before .step2 .given .0 .0) (c .before .step2 .given .1)
 
 some : (c : tie.After-next Inv-loop μ-loop) → 0 < length (c .next .result .now)
-some c = some-edges (c .before .before .before .before .before .before .before .before .before .before .args .table .now) (c .before .before .before .before .before .before .before .before .before .before .args .bits .now) (c .before .before .before .before .before .before .before .loop .edge) (c .before .before .before .before .before .before .before .loop .at) (c .before .before .before .before .before .before .before .loop .left) (c .before .before .step2 .given .0 .0) (codeLength (c .before .before .before .before .before .before .before .before .before .before .args .table .now) (c .before .before .step2 .given .0 .0)) (c .next .result .now) (c .before .before .before .before .before .before .before .loop .inv .0) (gone (c .before)) (c .next .ensures) refl
+some c = some-edges (c .before .before .before .before .before .before .before .before .before .before .before .args .table .now) (c .before .before .before .before .before .before .before .before .before .before .before .args .bits .now) (c .before .before .before .before .before .before .before .loop .edge) (c .before .before .before .before .before .before .before .loop .at) (c .before .before .before .before .before .before .before .loop .left) (c .before .before .step2 .given .0 .0) (codeLength (c .before .before .before .before .before .before .before .before .before .before .before .args .table .now) (c .before .before .step2 .given .0 .0)) (c .next .result .now) (c .before .before .before .before .before .before .before .loop .inv .0) (gone (c .before)) (c .next .ensures) refl
 
 loop-holds : tie.Need-loop-holds Inv-loop μ-loop
 loop-holds c = (omega arith, refl)
@@ -38,13 +38,13 @@ part-next-row-end : tie.Need-part-next-row-end Inv-loop μ-loop
 part-next-row-end c = omega arith
 
 next-row-requires : tie.Need-next-row-requires Inv-loop μ-loop
-next-row-requires c κs = c .before .before .before .before .before .pre
+next-row-requires c κs = c .before .before .before .before .before .before .pre
 
 enum-known-step : tie.Need-enum-known-step Inv-loop μ-loop
 enum-known-step c = search needs
 
 returns : tie.Need-returns Inv-loop μ-loop
-returns c = sym (ap answerOf (stops (c .before .before .before .before .before .before .before .before .before .args .table .now) (c .before .before .before .before .before .before .before .before .before .args .bits .now) (c .before .before .before .before .before .before .loop .edge) (c .before .before .before .before .before .before .loop .at) (c .before .before .before .before .before .before .loop .left) (c .before .before .before .next-row .result) (c .before .before .before .next-row .ensures) (c .before .before .before .before .before .loop-test .taken) _ (c .before .step .given .1))) ∙ c .before .before .before .before .before .before .loop .inv .1
+returns c = sym (ap answerOf (stops (c .before .before .before .before .before .before .before .before .before .before .args .table .now) (c .before .before .before .before .before .before .before .before .before .before .args .bits .now) (c .before .before .before .before .before .before .loop .edge) (c .before .before .before .before .before .before .loop .at) (c .before .before .before .before .before .before .loop .left) (c .before .before .before .next-row .result) (c .before .before .before .next-row .ensures) (c .before .before .before .before .before .loop-test .taken) _ (c .before .step .given .1))) ∙ c .before .before .before .before .before .before .loop .inv .1
 
 enum-known-step-2 : tie.Need-enum-known-step-2 Inv-loop μ-loop
 enum-known-step-2 c = search needs
@@ -65,22 +65,22 @@ code-length-requires : tie.Need-code-length-requires Inv-loop μ-loop
 code-length-requires c κs = gone (c .before .before) .good .within
 
 add-at : tie.Need-add-at Inv-loop μ-loop
-add-at c = omega (arith, bits-within (c .before .before .before .before .before .before .before .before .before .before .before .before .args .table .now) (c .before .before .before .before .before .before .before .before .before .before .before .before .args .bits .now) (c .before .before .before .before .before .before .before .before .before .loop .edge) (c .before .before .before .before .before .before .before .before .before .loop .at) (c .before .before .before .before .before .before .before .before .before .loop .left) (c .before .before .before .before .step2 .given .0 .0) (c .code-length .result) (c .before .before .next .result .now) (c .before .before .before .before .before .before .before .before .before .loop .inv .0) (gone (c .before .before .before)) (c .before .before .next .ensures) (c .code-length .ensures))
+add-at c = omega (arith, bits-within (c .before .before .before .before .before .before .before .before .before .before .before .before .before .args .table .now) (c .before .before .before .before .before .before .before .before .before .before .before .before .before .args .bits .now) (c .before .before .before .before .before .before .before .before .before .loop .edge) (c .before .before .before .before .before .before .before .before .before .loop .at) (c .before .before .before .before .before .before .before .before .before .loop .left) (c .before .before .before .before .step2 .given .0 .0) (c .code-length .result) (c .before .before .next .result .now) (c .before .before .before .before .before .before .before .before .before .loop .inv .0) (gone (c .before .before .before)) (c .before .before .next .ensures) (c .code-length .ensures))
 
 sub-left : tie.Need-sub-left Inv-loop μ-loop
-sub-left c = omega (arith, edges-fit (c .before .before .before .before .before .before .before .before .before .before .before .before .args .table .now) (c .before .before .before .before .before .before .before .before .before .before .before .before .args .bits .now) (c .before .before .before .before .before .before .before .before .before .loop .edge) (c .before .before .before .before .before .before .before .before .before .loop .at) (c .before .before .before .before .before .before .before .before .before .loop .left) (c .before .before .before .before .step2 .given .0 .0) (c .code-length .result) (c .before .before .next .result .now) (c .before .before .before .before .before .before .before .before .before .loop .inv .0) (gone (c .before .before .before)) (c .before .before .next .ensures) (c .code-length .ensures))
+sub-left c = omega (arith, edges-fit (c .before .before .before .before .before .before .before .before .before .before .before .before .before .args .table .now) (c .before .before .before .before .before .before .before .before .before .before .before .before .before .args .bits .now) (c .before .before .before .before .before .before .before .before .before .loop .edge) (c .before .before .before .before .before .before .before .before .before .loop .at) (c .before .before .before .before .before .before .before .before .before .loop .left) (c .before .before .before .before .step2 .given .0 .0) (c .code-length .result) (c .before .before .next .result .now) (c .before .before .before .before .before .before .before .before .before .loop .inv .0) (gone (c .before .before .before)) (c .before .before .next .ensures) (c .code-length .ensures))
 
 loop-less : tie.Need-loop-less Inv-loop μ-loop
-loop-less c = omega (arith, some (c .before .before), edges-fit (c .before .before .before .before .before .before .before .before .before .before .before .before .args .table .now) (c .before .before .before .before .before .before .before .before .before .before .before .before .args .bits .now) (c .before .before .before .before .before .before .before .before .before .loop .edge) (c .before .before .before .before .before .before .before .before .before .loop .at) (c .before .before .before .before .before .before .before .before .before .loop .left) (c .before .before .before .before .step2 .given .0 .0) (c .code-length .result) (c .before .before .next .result .now) (c .before .before .before .before .before .before .before .before .before .loop .inv .0) (gone (c .before .before .before)) (c .before .before .next .ensures) (c .code-length .ensures))
+loop-less c = omega (arith, some (c .before .before), edges-fit (c .before .before .before .before .before .before .before .before .before .before .before .before .before .args .table .now) (c .before .before .before .before .before .before .before .before .before .before .before .before .before .args .bits .now) (c .before .before .before .before .before .before .before .before .before .loop .edge) (c .before .before .before .before .before .before .before .before .before .loop .at) (c .before .before .before .before .before .before .before .before .before .loop .left) (c .before .before .before .before .step2 .given .0 .0) (c .code-length .result) (c .before .before .next .result .now) (c .before .before .before .before .before .before .before .before .before .loop .inv .0) (gone (c .before .before .before)) (c .before .before .next .ensures) (c .code-length .ensures))
 
 loop-again : tie.Need-loop-again Inv-loop μ-loop
-loop-again c = (bits-within (c .before .before .before .before .before .before .before .before .before .before .before .before .args .table .now) (c .before .before .before .before .before .before .before .before .before .before .before .before .args .bits .now) (c .before .before .before .before .before .before .before .before .before .loop .edge) (c .before .before .before .before .before .before .before .before .before .loop .at) (c .before .before .before .before .before .before .before .before .before .loop .left) (c .before .before .before .before .step2 .given .0 .0) (c .code-length .result) (c .before .before .next .result .now) (c .before .before .before .before .before .before .before .before .before .loop .inv .0) (gone (c .before .before .before)) (c .before .before .next .ensures) (c .code-length .ensures), answer-on (c .before .before .before .before .before .before .before .before .before .before .before .before .args .table .now) (c .before .before .before .before .before .before .before .before .before .before .before .before .args .bits .now) (c .before .before .before .before .before .before .before .before .before .loop .edge) (c .before .before .before .before .before .before .before .before .before .loop .at) (c .before .before .before .before .before .before .before .before .before .loop .left) (c .before .before .before .before .step2 .given .0 .0) (c .code-length .result) (c .before .before .next .result .now) (c .before .before .before .before .before .before .before .before .before .loop .inv .0) (gone (c .before .before .before)) (c .before .before .next .ensures) (c .code-length .ensures) _ (c .before .before .before .before .before .before .before .before .before .loop .inv .1))
+loop-again c = (bits-within (c .before .before .before .before .before .before .before .before .before .before .before .before .before .args .table .now) (c .before .before .before .before .before .before .before .before .before .before .before .before .before .args .bits .now) (c .before .before .before .before .before .before .before .before .before .loop .edge) (c .before .before .before .before .before .before .before .before .before .loop .at) (c .before .before .before .before .before .before .before .before .before .loop .left) (c .before .before .before .before .step2 .given .0 .0) (c .code-length .result) (c .before .before .next .result .now) (c .before .before .before .before .before .before .before .before .before .loop .inv .0) (gone (c .before .before .before)) (c .before .before .next .ensures) (c .code-length .ensures), answer-on (c .before .before .before .before .before .before .before .before .before .before .before .before .before .args .table .now) (c .before .before .before .before .before .before .before .before .before .before .before .before .before .args .bits .now) (c .before .before .before .before .before .before .before .before .before .loop .edge) (c .before .before .before .before .before .before .before .before .before .loop .at) (c .before .before .before .before .before .before .before .before .before .loop .left) (c .before .before .before .before .step2 .given .0 .0) (c .code-length .result) (c .before .before .next .result .now) (c .before .before .before .before .before .before .before .before .before .loop .inv .0) (gone (c .before .before .before)) (c .before .before .next .ensures) (c .code-length .ensures) _ (c .before .before .before .before .before .before .before .before .before .loop .inv .1))
 
 returns-2 : tie.Need-returns-2 Inv-loop μ-loop
-returns-2 c = let s = c .before .before .before .before .before .args in let l = c .before .before .loop in sym (ap answerOf (walk-left (rowsOf (s .table .now)) (l .edge) (s .bits .now) (l .left) (l .at) (c .before .loop-test .left) (c .if1 .taken))) ∙ l .inv .1
+returns-2 c = let s = c .before .before .before .before .before .before .args in let l = c .before .before .loop in sym (ap answerOf (walk-left (rowsOf (s .table .now)) (l .edge) (s .bits .now) (l .left) (l .at) (c .before .loop-test .left) (c .if1 .taken))) ∙ l .inv .1
 
 returns-3 : tie.Need-returns-3 Inv-loop μ-loop
-returns-3 c = let s = c .before .before .before .before .before .args in let l = c .before .before .loop in sym (ap answerOf (walk-over (rowsOf (s .table .now)) (l .edge) (s .bits .now) (l .left) (l .at) (c .before .loop-test .left) (c .if1 .left))) ∙ l .inv .1
+returns-3 c = let s = c .before .before .before .before .before .before .args in let l = c .before .before .loop in sym (ap answerOf (walk-over (rowsOf (s .table .now)) (l .edge) (s .bits .now) (l .left) (l .at) (c .before .loop-test .left) (c .if1 .left))) ∙ l .inv .1
 
 pub follow-spec : {M : Type 1} → statement M
 follow-spec =

@@ -1,5 +1,6 @@
 -- `transitions::route::put` meets its contract: a copy, edge by edge. Assumes nothing.
 use lib.ListN.{set, length-set}
+use lib.ListN.{set, length-set}
 use lib.Seq.{paste, paste-zero, paste-suc, take-length}
 use lib.ListN.{set, length-set}
 use native.Mathlib.Numerals.{add-one}
