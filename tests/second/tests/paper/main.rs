@@ -7,5 +7,6 @@ mod log_writer;
 mod reader;
 mod replay;
 mod scrub;
+mod transitions;
 mod walk;
 mod writer;
