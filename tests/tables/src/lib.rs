@@ -150,16 +150,16 @@ pub fn case(kind: Kind, seed: u64) -> Case {
 
 /// Few and small numbers, of which some happen to be a table.
 fn garbage(random: &mut Random) -> Case {
-    let few = [0, 1, 1, 2, 48, 49, 5, u64::MAX];
-    let kinds = 3 + random.index(few.len() - 2);
+    let few = [1, 0, 1, 48, 1, 49, 2, u64::MAX];
+    let kinds = random.one_of(&[2, 4, 4, 6, few.len()]);
     let mut any = |most: usize| -> Vec<u64> {
         let length = random.index(most + 1);
         (0..length).map(|_| random.one_of(&few[..kinds])).collect()
     };
-    let (table, bits) = (any(14), any(3));
+    let (table, bits) = (any(9), any(3));
     Case {
         table,
-        start: random.one_of(&few),
+        start: random.one_of(&few[..kinds]),
         bits: bits.iter().map(|number| 48 + (*number % 3) as u8).collect(),
         wanted: random.below(4),
         length: 1 + random.index(4),
