@@ -33,6 +33,7 @@ host: $(PROGRAM)
 $(LIBRARY).a: host/library include/towercloak.h crates.txt $(shell find crates -name '*.rt' -o -name '*.antt')
 	rt staticlib towercloak
 	rt staticlib desk
+	rt staticlib graph
 	host/library
 
 $(PROGRAM): host/build $(LIBRARY).a $(wildcard host/*.c host/*.h)

@@ -25,7 +25,8 @@ static const char *const rules[] = {
     [17] = "a side's frequency or constant_tsc is 0: its ticks have no unit",
     [18] = "a side has no measured call: closed is not above backward",
     [19] = "a metadata record's kind is above 6",
-    [40] = "the transition table ends inside a row, a code is over 32 characters or not of 0 and 1, a list is empty, or a code begins another of its edge",
+    [40] = "the transition table ends inside a row, a code is over 32 characters or not of 0 and 1, a list is empty, or a "
+           "code begins another of its edge",
     [41] = "no row of the transition table is for an edge",
     [42] = "the bits run out, or no row's code begins them",
     [43] = "a row's list passes the wanted number of edges",

@@ -1,9 +1,10 @@
-/* Towercloak: replay and scrubbing of XRay flight data recorder logs, and exact comparison of times measured in them.
+/* Towercloak: replay and scrubbing of XRay flight data recorder logs, exact comparison of times measured in them, and walks
+ * of the transition tables of DCFG traces.
  *
  * Link with libtowercloak.a or libtowercloak.so (`make host` writes both to target/lib/).
  * Every function may be handed any numbers and any bytes at all; it keeps no state and touches no memory of
- * the caller's but what it is lent. What one call is lent must not overlap. A pointer to bytes or to a table may
- * be null where the length beside it is 0.
+ * the caller's but what it is lent. What one call is lent must not overlap. A pointer to bytes, to a table or to a
+ * list may be null where the length beside it is 0.
  */
 #ifndef TOWERCLOAK_H
 #define TOWERCLOAK_H
@@ -100,6 +101,37 @@ uint32_t towercloak_replay(const uint8_t *log, size_t length, uint32_t order, ui
  */
 uint32_t towercloak_header(const uint8_t *log, size_t length, uint32_t order, uint64_t *frequency,
                            uint64_t *constant_tsc, uint64_t *nonstop_tsc, uint64_t *buffer_size);
+
+/* What towercloak_walk answers. */
+enum {
+    TOWERCLOAK_SHORT_LIST = 14,     /* the lent list is shorter than the wanted number */
+    TOWERCLOAK_BAD_TABLE = 40,      /* the table itself is refused */
+    TOWERCLOAK_NO_TRANSITION = 41,  /* no row is for an edge */
+    TOWERCLOAK_UNMATCHED_BITS = 42, /* the bits run out, or no row's code begins them */
+    TOWERCLOAK_PAST_WANTED = 43,    /* a row's list passes the wanted number */
+    TOWERCLOAK_BITS_LEFT = 44       /* bits are left over */
+};
+
+/* Walks a transition table of a DCFG trace: which edges follow the starting one where these bits are read.
+ *
+ * The table is rows, one behind the other, of 64-bit numbers: the edge that the row is for, the length of its code, the
+ * code's characters, which are '0' and '1', a number each, the length of its list, and the edges of the list. An edge may
+ * be any number. bits is a string of bit_count characters, without an end of its own.
+ *
+ * A step goes along the row of the current edge whose whole code begins the bits: it reads the code and lists the row's
+ * edges, of which the last is the next current edge. The walk goes on until the wanted number of edges is listed, which
+ * doesn't count the starting one.
+ *
+ * 0         list[0] to list[wanted - 1] are the edges. The list's rest is as it was.
+ * 14        wanted is above length, the number of edges that the list has room for.
+ * 40        The table ends inside a row; or a code has over 32 characters, or one that isn't '0' or '1'; or a row's list is
+ *           empty; or some edge has two rows where one code begins or equals the other. All rows are tested first.
+ * 41 to 44  The walk is refused where it stands, as told above.
+ *
+ * After a refusal the list is as it was.
+ */
+uint32_t towercloak_walk(const uint64_t *table, size_t numbers, uint64_t start, const char *bits, size_t bit_count,
+                         uint64_t wanted, uint64_t *list, size_t length);
 
 #ifdef __cplusplus
 }

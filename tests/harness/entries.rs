@@ -1,7 +1,7 @@
 //! Which numbers each entry can answer with: that of a refusal, or 0 for none.
 
 /// The greatest number of a refusal.
-pub const GREATEST: usize = 19;
+pub const GREATEST: usize = 44;
 
 pub const HEADER: &[usize] = &[0, 1, 2, 3, 4];
 pub const RECORD_READER: &[usize] = &[0, 5, 6, 19];
@@ -19,3 +19,4 @@ pub const START: &[usize] = &[0, 15, 16];
 pub const OPEN: &[usize] = &[0, 7, 15];
 pub const ADD: &[usize] = &[0, 7, 15, 16];
 pub const CLOSE: &[usize] = &[0, 7];
+pub const TRANSITIONS: &[usize] = &[0, 14, 40, 41, 42, 43, 44];

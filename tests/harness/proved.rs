@@ -14,6 +14,10 @@ mod c {
             frequency_b: u64, constant_tsc_b: u64, closed_b: u64, backward_b: u64, ticks_b: u64,
         ) -> u32;
         pub fn towercloak_scrub(log: *mut u8, len: usize, order: u32, place: *mut u64) -> u32;
+        pub fn towercloak_walk(
+            table: *const u64, table_len: usize, start: u64, bits: *const u8, bits_len: usize,
+            wanted: u64, list: *mut u64, list_len: usize,
+        ) -> u32;
 
         pub fn probe_header(log: *const u8, len: usize, order: u32, which: u64) -> u64;
         pub fn probe_read(
@@ -79,6 +83,18 @@ pub fn scrub(log: &mut [u8], order: u32) -> (u32, u64) {
     // outlive the call.
     let number = unsafe { c::towercloak_scrub(log.as_mut_ptr(), log.len(), order, &mut place) };
     (number, place)
+}
+
+/// The walk of a transition table, as a C program has it: the refusal's number or
+/// 0.
+#[rustfmt::skip]
+pub fn walk(table: &[u64], start: u64, bits: &[u8], wanted: u64, list: &mut [u64]) -> u32 {
+    unsafe {
+        c::towercloak_walk(
+            table.as_ptr(), table.len(), start, bits.as_ptr(), bits.len(),
+            wanted, list.as_mut_ptr(), list.len(),
+        )
+    }
 }
 
 pub fn scrub_number(log: &mut [u8], order: u32, which: u64) -> u64 {

@@ -49,7 +49,7 @@ impl Shape {
     };
     pub const WIDE: Shape = Shape {
         edges: 3,
-        rows: 600,
+        rows: 150,
         ..Shape::USUAL
     };
     pub const ANY_EDGES: Shape = Shape {

@@ -79,7 +79,7 @@ fn clash(random: &mut Random, place: usize, rows: &mut Vec<Row>) {
         0 => {}
         1 => row.code.truncate(random.index(row.code.len() + 1)),
         _ => {
-            let room = LONGEST - row.code.len();
+            let room = LONGEST.saturating_sub(row.code.len());
             let more = random.index(room + 1);
             let characters = (0..more).map(|_| random.one_of(&[ZERO, ONE]));
             row.code.extend(characters);

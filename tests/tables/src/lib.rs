@@ -38,7 +38,7 @@ pub enum Kind {
     Single,
     /// Lists of up to 300 edges.
     LongLists,
-    /// Up to 600 rows of an edge.
+    /// Up to 150 rows of an edge.
     Wide,
     /// Edges of 64 bits, some of which differ in one.
     AnyEdges,

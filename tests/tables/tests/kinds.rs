@@ -79,7 +79,7 @@ fn codes_have_up_to_32_characters() {
     let lengths = (0..200).map(|seed| case(Kind::Deep, seed).table);
     assert!(lengths.into_iter().any(|table| table[1] == 32));
     let wide = (0..200).map(|seed| case(Kind::Wide, seed).table.len());
-    assert!(wide.max() > Some(6000));
+    assert!(wide.max() > Some(3000));
 }
 
 #[test]
