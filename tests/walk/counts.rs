@@ -2,15 +2,18 @@
 
 use harness::counts::Table;
 use harness::entries;
-use tables::{Case, Kind, Same};
+use tables::{Case, Kind, Large, PART};
 
 const GENERATED: usize = 0;
-const LARGE: usize = 1;
+const PARTS: usize = 1;
+const LARGE: usize = 2;
 
-/// What the answers come to, of all cases and of those with over 65,536 rows.
-const ANSWERS: [(&str, &[usize]); 2] = [
+/// What can be answered: to generated cases, and to large tables by whether they
+/// have more rows than are sorted at a time.
+const ANSWERS: [(&str, &[usize]); 3] = [
     ("generated", entries::TRANSITIONS),
     ("over 65,536 rows", &[0, 40]),
+    ("65,536 rows", &[0, 40]),
 ];
 
 /// Accepted walks by how many edges are wanted.
@@ -20,19 +23,15 @@ pub struct Counts {
     pub answers: Table,
     kinds: Table,
     wanted: Table,
-    /// Refused and accepted tables by which of two rows are the same.
-    same: Table,
 }
 
 impl Counts {
     pub fn new() -> Counts {
         let kinds = Kind::ALL.map(|kind| format!("{kind:?}"));
-        let same = Same::ALL.map(|same| format!("{same:?}"));
         Counts {
             answers: Table::refusals("refusals", ANSWERS),
             kinds: Table::counting("kind", "walks", kinds),
             wanted: Table::counting("accepted, edges wanted", "walks", WANTED),
-            same: Table::counting("two rows the same", "tables", same),
         }
     }
 
@@ -50,12 +49,13 @@ impl Counts {
         }
     }
 
-    pub fn large(&mut self, same: Same, number: u32) {
-        self.answers.count(LARGE, number as usize);
-        self.same.count(same as usize, 0);
+    pub fn large(&mut self, large: Large, number: u32) {
+        let rows = large.rows + usize::from(large.again.is_some());
+        let row = if rows > PART { PARTS } else { LARGE };
+        self.answers.count(row, number as usize);
     }
 
-    pub fn tables(&self) -> [&Table; 4] {
-        [&self.kinds, &self.answers, &self.wanted, &self.same]
+    pub fn tables(&self) -> [&Table; 3] {
+        [&self.kinds, &self.answers, &self.wanted]
     }
 }

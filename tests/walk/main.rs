@@ -1,6 +1,6 @@
 //! Compares the proved walk of transition tables with the second one, the whole
-//! lent list too, on generated tables and walks, and on some of more rows than
-//! the proved one sorts at a time.
+//! lent list too, on generated tables and walks, and on some of about as many
+//! rows as the proved one sorts at a time.
 //!
 //! `walk [CASES] [--seed SEED]`
 
@@ -13,7 +13,7 @@ use harness::proved;
 use harness::suite::{self, Words};
 use logs::random::Random;
 use std::process::ExitCode;
-use tables::{Case, Kind, Same};
+use tables::{Case, Kind, Large};
 
 /// Cases where no number is given.
 const CASES: u64 = 110_000;
@@ -66,10 +66,10 @@ fn run(words: Words) -> Result<String, String> {
         let number = check(&format!("{kind:?}"), seed, &case)?;
         counts.count(kind, &case, number);
     }
-    for same in Same::ALL {
-        let case = tables::large(first, same);
-        let number = check(&format!("large, {same:?}"), first, &case)?;
-        counts.large(same, number);
+    for large in Large::ALL {
+        let case = tables::large(first, large);
+        let number = check(&format!("{large:?}"), first, &case)?;
+        counts.large(large, number);
     }
     suite::seen(&counts.tables())?;
     let walks = counts.answers.sum();

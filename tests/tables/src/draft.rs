@@ -99,7 +99,7 @@ impl Shape {
     }
 }
 
-fn shuffle(random: &mut Random, rows: &mut [Row]) {
+pub fn shuffle(random: &mut Random, rows: &mut [Row]) {
     for place in (1..rows.len()).rev() {
         rows.swap(place, random.index(place + 1));
     }

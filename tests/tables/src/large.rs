@@ -1,37 +1,44 @@
-//! Tables of more rows than the proved walk sorts at a time.
+//! Tables of about as many rows as the proved walk sorts at a time.
 
 use crate::codes::{ONE, ZERO};
-use crate::draft::{numbers, Row};
+use crate::draft::{numbers, shuffle, Row};
 use crate::Case;
 use logs::random::Random;
 
-/// Rows that are sorted at a time, and rows behind them.
-const PART: usize = 65_536;
-const BEHIND: usize = 1_500;
+/// Rows that are sorted at a time.
+pub const PART: usize = 65_536;
 
 /// Rows of an edge: as many as codes of this length.
 const CODE: usize = 11;
 const ROWS: usize = 1 << CODE;
 const STEPS: usize = 40;
 
-/// Which two rows are the same: none, two of the first part, one of each, or two
-/// behind it.
+/// How many rows a large table has, and which of them comes once more behind
+/// them.
 #[derive(Debug, Clone, Copy, PartialEq, Eq)]
-pub enum Same {
-    None,
-    First,
-    Both,
-    Behind,
+pub struct Large {
+    pub rows: usize,
+    pub again: Option<usize>,
 }
 
-impl Same {
-    pub const ALL: [Same; 4] = [Same::None, Same::First, Same::Both, Same::Behind];
+impl Large {
+    #[rustfmt::skip]
+    pub const ALL: [Large; 5] = [
+        Large { rows: PART, again: None },
+        Large { rows: PART - 1, again: Some(7) },
+        Large { rows: PART + 1, again: None },
+        Large { rows: PART, again: Some(PART - 1) },
+        Large { rows: PART + 1_500, again: Some(PART + 3) },
+    ];
 }
 
-/// A case with so many rows. Its walk goes along rows of both parts.
-pub fn large(seed: u64, same: Same) -> Case {
+/// A case with so many rows, in any order.
+pub fn large(seed: u64, large: Large) -> Case {
     let random = &mut Random::new(seed);
-    let mut rows: Vec<Row> = (0..PART + BEHIND).map(|index| row(random, index)).collect();
+    let edges = large.rows.div_ceil(ROWS) as u64;
+    let mut rows: Vec<Row> = (0..large.rows)
+        .map(|index| row(random, index, edges))
+        .collect();
     let mut route: Vec<Row> = Vec::new();
     for _ in 0..STEPS {
         let edge = route.last().map_or(1, |row| row.list[0]);
@@ -39,7 +46,10 @@ pub fn large(seed: u64, same: Same) -> Case {
         let own = ROWS.min(rows.len() - first);
         route.push(rows[first + random.index(own)].clone());
     }
-    repeat(random, same, &mut rows);
+    shuffle(random, &mut rows);
+    if let Some(place) = large.again {
+        rows.push(rows[place].clone());
+    }
     let characters = route.iter().flat_map(|row| &row.code);
     Case {
         start: 1,
@@ -50,20 +60,8 @@ pub fn large(seed: u64, same: Same) -> Case {
     }
 }
 
-/// Puts a row in once more, behind itself.
-fn repeat(random: &mut Random, same: Same, rows: &mut Vec<Row>) {
-    let (one, other) = match same {
-        Same::None => return,
-        Same::First => (random.index(PART / 2), PART / 2 + random.index(PART / 2)),
-        Same::Both => (random.index(PART), PART + random.index(BEHIND)),
-        Same::Behind => (PART + random.index(BEHIND / 2), PART + BEHIND),
-    };
-    let row = rows[one].clone();
-    rows.insert(other, row);
-}
-
 /// Every code of an edge, then of the next.
-fn row(random: &mut Random, index: usize) -> Row {
+fn row(random: &mut Random, index: usize, edges: u64) -> Row {
     let code = (0..CODE).map(|bit| match index >> bit & 1 {
         0 => ZERO,
         _ => ONE,
@@ -71,6 +69,6 @@ fn row(random: &mut Random, index: usize) -> Row {
     Row {
         edge: (index / ROWS) as u64 + 1,
         code: code.collect(),
-        list: vec![1 + random.below((PART / ROWS) as u64 + 1)],
+        list: vec![1 + random.below(edges)],
     }
 }

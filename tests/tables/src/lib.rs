@@ -14,7 +14,7 @@ mod large;
 use draft::{Draft, Shape};
 use logs::random::Random;
 
-pub use large::{large, Same};
+pub use large::{large, Large, PART};
 
 /// What is handed to a walk.
 #[derive(Debug, Clone, PartialEq, Eq)]

@@ -1,7 +1,7 @@
 //! What holds of the tables and the walks that are made.
 
 use second::transitions::walk;
-use tables::{case, large, Case, Kind, Same};
+use tables::{case, Case, Kind};
 
 /// The number of its refusal, or 0.
 fn number(case: &Case) -> usize {
@@ -80,12 +80,4 @@ fn codes_have_up_to_32_characters() {
     assert!(lengths.into_iter().any(|table| table[1] == 32));
     let wide = (0..200).map(|seed| case(Kind::Wide, seed).table.len());
     assert!(wide.max() > Some(3000));
-}
-
-#[test]
-fn large_tables_are_sound_but_for_what_is_the_same() {
-    for same in [Same::None, Same::First] {
-        let expected = if same == Same::None { 0 } else { 40 };
-        assert_eq!(number(&large(1, same)), expected);
-    }
 }
