@@ -10,7 +10,7 @@ use borrow.Author.Tests.{eq-eqb, eqb-true}
 use lib.Dec.{eqb}
 use lib.ListN.{length, getD}
 use Rattle.refusal.proofs.Cases.{by-lt, by-eq}
-use Rattle.transitions.specs.Table.{Row, codeAt, rowAt, places, rowsFrom, rowsOf, any, begins, clash, clashes}
+use Rattle.transitions.specs.Table.{Row, codeAt, rowAt, places, rowsFrom, rowsOf, any, badRow, begins, clash, clashes, badTable}
 use Rattle.transitions.specs.Key.{keyAt}
 use Rattle.transitions.specs.Order.{UpTo}
 use Rattle.transitions.specs.Sorting.{Each, Swaps, Distinct}
@@ -249,3 +249,20 @@ module _ (t : List ℕ) where
 
     pub no-match : (l : List ℕ) → ((k : ℕ) → k < length l → matches e bits (rowAt t (getD l k 0)) ≡ true → ⊥) → noMatch ≡ pick (matching e bits (map (rowAt t) l))
     no-match l miss = ap pick (sym (matching-empty l miss))
+
+    at-most-one : (l : List ℕ) → clashes (map (rowAt t) l) ≡ false → length (matching e bits (map (rowAt t) l)) ≤ 1
+    unfolding matching
+    at-most-one [] c = omega arith
+    at-most-one (p ∷ l) c = go (matches e bits (rowAt t p)) refl (at-most-one l (tail-false p l c))
+      where
+        go : (b : Bool) → matches e bits (rowAt t p) ≡ b → length (matching e bits (map (rowAt t) l)) ≤ 1 → length (matching e bits (map (rowAt t) (p ∷ l))) ≤ 1
+        go true x rest =
+            let others : matching e bits (map (rowAt t) l) ≡ [] = matching-empty l
+                (λ k h m. never (clashes (map (rowAt t) (p ∷ l))) c (pair-clashes (p ∷ l) 0 (suc k) (omega arith) (omega arith) (match-clash p (getD l k 0) x m))) in
+            rw (x, matching) (omega (arith, ap length others))
+        go false x rest = rw (x, matching) rest
+
+  -- "The row" is one: in a table that isn't refused at most one row of an edge matches the bits.
+  pub one-match : badTable t ≡ false → (e : ℕ) (bits : List ℕ) → length (matching e bits (rowsOf t)) ≤ 1
+  unfolding badTable rowsFrom
+  one-match h e bits = at-most-one e bits (places t 0) (or-false (any (badRow t) (places t 0)) (clashes (rowsOf t)) h .1)

@@ -13,3 +13,4 @@ pub mod Heaps
 pub mod Adjoining
 pub mod Halving
 pub mod Indexing
+pub mod Counting

@@ -10,12 +10,12 @@ pub fn wide(x: u8) -> u64
 }
 
 // Whether some character is no bit.
-pub fn strange(code: &[u64]) -> bool
-    ensures { λ r. ⌜ r ≡ any noBit (now (code .entry)) ⌝ }
+pub fn strange(characters: &[u64]) -> bool
+    ensures { λ r. ⌜ r ≡ any noBit (now (characters .entry)) ⌝ }
 {
     let mut i: usize = 0;
-    while i < code.len() {
-        let c = code[i];
+    while i < characters.len() {
+        let c = characters[i];
         if c < 48 {
             return true;
         }
