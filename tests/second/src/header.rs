@@ -21,7 +21,15 @@ pub struct Header {
 
 /// Tests 1 to 4 in order. The error is the refusal's number.
 pub fn check(log: &[u8], order: Order) -> Result<Header, u8> {
-    if log.len() < SIZE || log.len() > LONGEST {
+    match log.len() > LONGEST {
+        true => Err(1),
+        false => unlimited(log, order),
+    }
+}
+
+/// Tests 1 to 4, where "1 has no upper limit": paper 02, CR 1.
+pub fn unlimited(log: &[u8], order: Order) -> Result<Header, u8> {
+    if log.len() < SIZE {
         return Err(1);
     }
     if order.number(&log[0..2]) != 1 {

@@ -1,9 +1,9 @@
 //! A second, independent reading of trace logs after Paper 01: the header's
 //! tests, the record reader, the record writer and the log writer, the walk from
-//! record to record with the grammar, replay with its table, the hidden bytes
-//! and the scrubber, and the comparison of two times; and, after Paper 02, CR 7,
-//! the walk of a transition table. All that reads or writes a log takes its byte
-//! order.
+//! record to record with the grammar, replay with its table, of a whole log or
+//! of one that comes in reads, the hidden bytes and the scrubber, and the
+//! comparison of two times. All that reads or writes a log takes its byte order.
+//! After Paper 02 also the walk of a transition table (CR 7).
 //!
 //! Nothing here is quick or clever: each function follows one passage of the
 //! paper and names it.
@@ -18,6 +18,7 @@ pub mod reader;
 pub mod record;
 pub mod replay;
 pub mod scrub;
+pub mod stream;
 pub mod transitions;
 pub mod walk;
 pub mod writer;

@@ -1,9 +1,10 @@
 //! The replay of the call stack. Paper 01, "Replay" for what it counts, and
 //! "The numbered refusals" for the order of tests: 14, then 1 to 4, then at
 //! each record the walk's tests and 9; then for an entry 11 and 12, for an
-//! exit 10 and 13. Paper 02, CR 3, for what a tail exit closes.
+//! exit 10 and 13. Paper 02, CR 3, for what a tail exit closes, and CR 1 for
+//! logs of any length.
 
-use crate::header;
+use crate::header::{self, Header};
 use crate::order::Order;
 use crate::record::{Record, ENTRY_ARGS};
 use crate::walk::{self, Step};
@@ -43,29 +44,41 @@ pub enum Answer {
 /// Replays the log and writes the rows into the lent table. Takes any log and
 /// any table.
 pub fn replay(log: &[u8], order: Order, table: &mut [u64]) -> Answer {
-    if table.len() < TABLE {
+    replay_after(header::check, log, order, table)
+}
+
+/// The same without 1's upper limit.
+pub fn unlimited(log: &[u8], order: Order, table: &mut [u64]) -> Answer {
+    replay_after(header::unlimited, log, order, table)
+}
+
+/// Tests 1 to 4.
+type HeaderTests = fn(&[u8], Order) -> Result<Header, u8>;
+
+/// Replays the log behind these tests of its header.
+fn replay_after(tests: HeaderTests, log: &[u8], order: Order, table: &mut [u64]) -> Answer {
+    // "Numbers past those are never touched."
+    let Some(written) = table.get_mut(..TABLE) else {
         // "After 14 the counts are zero and the table is untouched."
         let (number, place) = (14, 0);
         return Answer::Refused { number, place };
-    }
-    // "Numbers past those are never touched."
-    let written = &mut table[..TABLE];
-    written.fill(0);
-    match run(log, order) {
+    };
+    let header = tests(log, order).map_err(|number| (number, 0));
+    match header.and_then(|header| run(log, order, &header)) {
         Ok(state) => {
-            for (index, row) in state.rows.iter().enumerate() {
-                written[index * ROW..(index + 1) * ROW].copy_from_slice(&row.numbers());
-            }
+            state.write(written);
             state.report()
         }
-        Err((number, place)) => Answer::Refused { number, place },
+        Err((number, place)) => {
+            written.fill(0);
+            Answer::Refused { number, place }
+        }
     }
 }
 
 /// The state behind the last record, or the first fault's number and place.
-fn run(log: &[u8], order: Order) -> Result<State, (u8, u64)> {
-    let header = header::check(log, order).map_err(|number| (number, 0))?;
-    let mut position = walk::start(&header, order);
+fn run(log: &[u8], order: Order, header: &Header) -> Result<State, (u8, u64)> {
+    let mut position = walk::start(header, order);
     let mut state = State::default();
     loop {
         match walk::next(log, position) {
@@ -81,7 +94,7 @@ fn run(log: &[u8], order: Order) -> Result<State, (u8, u64)> {
 }
 
 /// What is counted for one function id.
-#[derive(Default)]
+#[derive(Clone, Default)]
 struct Row {
     id: u32,
     entered: u64,
@@ -105,6 +118,7 @@ impl Row {
 }
 
 /// An open call.
+#[derive(Clone)]
 struct Call {
     id: u32,
     /// The index of its id's row.
@@ -114,8 +128,8 @@ struct Call {
 }
 
 /// Where a replay stands between two records.
-#[derive(Default)]
-struct State {
+#[derive(Clone, Default)]
+pub(crate) struct State {
     clock: u64,
     /// The open calls, the nearest one last.
     stack: Vec<Call>,
@@ -130,7 +144,7 @@ struct State {
 impl State {
     /// One record that passed the walk's tests. The error is a refusal's
     /// number.
-    fn take(&mut self, record: &Record) -> Result<(), u8> {
+    pub(crate) fn take(&mut self, record: &Record) -> Result<(), u8> {
         match *record {
             Record::NewBuffer { .. } => self.buffers += 1,
             Record::NewCpuId { tsc, .. } | Record::TscWrap { tsc } => self.clock = tsc,
@@ -223,7 +237,16 @@ impl State {
         Ok(())
     }
 
-    fn report(&self) -> Answer {
+    /// "The first 6,144 numbers are written: rows, then zeros."
+    pub(crate) fn write(&self, written: &mut [u64]) {
+        let (rows, zeros) = written.split_at_mut(self.rows.len() * ROW);
+        for (numbers, row) in rows.chunks_mut(ROW).zip(&self.rows) {
+            numbers.copy_from_slice(&row.numbers());
+        }
+        zeros.fill(0);
+    }
+
+    pub(crate) fn report(&self) -> Answer {
         Answer::Report {
             rows: self.rows.len() as u64,
             buffers: self.buffers,
@@ -240,7 +263,13 @@ pub fn lines(log: &[u8], order: Order) -> String {
         return "too long\n".to_string();
     }
     let mut table = vec![0; TABLE];
-    match replay(log, order, &mut table) {
+    let answer = replay(log, order, &mut table);
+    lines_of(&answer, &table)
+}
+
+/// The lines for an answer and the table that was written with it.
+pub fn lines_of(answer: &Answer, table: &[u64]) -> String {
+    match answer {
         Answer::Refused { number, place } => format!("refused {number} at {place}\n"),
         Answer::Report {
             rows,
@@ -249,7 +278,7 @@ pub fn lines(log: &[u8], order: Order) -> String {
             open,
         } => {
             let mut text = format!("rows {rows} buffers {buffers} records {records} open {open}\n");
-            for row in table.chunks(ROW).take(rows as usize) {
+            for row in table.chunks(ROW).take(*rows as usize) {
                 let numbers: Vec<String> = row.iter().map(u64::to_string).collect();
                 text += &numbers.join(" ");
                 text.push('\n');

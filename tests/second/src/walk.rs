@@ -148,7 +148,7 @@ fn buffer_end(log: &[u8], position: Position) -> Result<u64, u8> {
 
 /// The thread seen behind the record: "all buffers carry the first buffer's
 /// thread", else 8.
-fn thread_after(seen: Option<u16>, record: &Record) -> Result<Option<u16>, u8> {
+pub(crate) fn thread_after(seen: Option<u16>, record: &Record) -> Result<Option<u16>, u8> {
     match (seen, record) {
         (Some(first), Record::NewBuffer { thread }) if first != *thread => Err(8),
         (_, Record::NewBuffer { thread }) => Ok(Some(*thread)),

@@ -7,6 +7,7 @@ mod log_writer;
 mod reader;
 mod replay;
 mod scrub;
+mod stream;
 mod transitions;
 mod walk;
 mod writer;

@@ -2,7 +2,7 @@
 //! print, and what "Replay" says of rows, calls and clocks.
 
 mod limits;
-mod log;
+pub mod log;
 
 use log::{refused, report, run, Log, OLD};
 use second::order::Order::{Big, Little};
