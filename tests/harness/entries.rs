@@ -20,3 +20,6 @@ pub const OPEN: &[usize] = &[0, 7, 15];
 pub const ADD: &[usize] = &[0, 7, 15, 16];
 pub const CLOSE: &[usize] = &[0, 7];
 pub const TRANSITIONS: &[usize] = &[0, 14, 40, 41, 42, 43, 44];
+/// A stream that a read or the end ends: the first of these alone by refusals.
+pub const FEED: &[usize] = &[2, 3, 4, 5, 6, 7, 8, 9, 10, 11, 12, 13, 19];
+pub const END: &[usize] = &[0, 1, 4];

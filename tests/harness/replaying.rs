@@ -7,7 +7,7 @@ use second::order::Order;
 use second::replay::{replay, Answer, TABLE};
 
 /// The longest table that is lent.
-const LONGEST: usize = TABLE + 240;
+pub const LONGEST: usize = TABLE + 240;
 /// Numbers behind the longest table.
 const BEHIND: usize = 16;
 

@@ -1,0 +1,73 @@
+//! What a run has seen.
+
+use crate::cuts::Way;
+use crate::driver::Told;
+use crate::times::End;
+use harness::answer;
+use harness::counts::{by_order, Table, ORDERS};
+use harness::entries;
+use second::order::Order;
+use second::replay::Answer;
+
+/// Logs by how they do in tests 1 to 4, and when they are refused.
+const ENDS: [&str; 8] = [
+    "1 to 4 pass, accepted",
+    "1 to 4 pass, refused",
+    "fail 1",
+    "fail 2",
+    "fail 3",
+    "fail 4 by size",
+    "fail 4 by length, refused before",
+    "fail 4 by length, at the end",
+];
+
+pub struct Counts {
+    /// Logs by kind and order; the last row is for the samples.
+    pub kinds: Table,
+    ways: Table,
+    ends: Table,
+    told: Table,
+}
+
+impl Counts {
+    pub fn new() -> Counts {
+        let ways = Way::ALL.map(|way| format!("{way:?}"));
+        let cut = ["samples, cut in two".to_string()];
+        let told = [("reads", entries::FEED), ("ends", entries::END)];
+        Counts {
+            kinds: Table::kinds("samples"),
+            ways: Table::grid("ways to cut", &ORDERS, ways.into_iter().chain(cut)),
+            ends: Table::grid("logs by their ends", &ORDERS, ENDS),
+            told: Table::refusals_by_order("refusals that end a stream", told),
+        }
+    }
+
+    /// A log that was cut in this way.
+    pub fn log(&mut self, order: Order, way: Way, end: End, told: &Told) {
+        self.ways.count(way as usize, order as usize);
+        self.ended(order, end, told);
+    }
+
+    /// A sample that was cut in two.
+    pub fn cut(&mut self, order: Order, end: End, told: &Told) {
+        self.ways.count(Way::ALL.len(), order as usize);
+        self.ended(order, end, told);
+    }
+
+    fn ended(&mut self, order: Order, end: End, told: &Told) {
+        let row = match end {
+            End::Whole(Answer::Report { .. }) => 0,
+            End::Whole(Answer::Refused { .. }) => 1,
+            End::Header(number) => 1 + usize::from(number),
+            End::Length => 6 + usize::from(told.at_end),
+        };
+        self.ends.count(row, order as usize);
+        let [number, ..] = answer::replayed(&told.answer);
+        let row = by_order(usize::from(told.at_end), order);
+        self.told.count(row, number as usize);
+    }
+
+    pub fn tables<'a>(&'a self, calls: &'a Table) -> [&'a Table; 5] {
+        [&self.kinds, &self.ways, &self.ends, &self.told, calls]
+    }
+}

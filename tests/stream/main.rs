@@ -1,0 +1,109 @@
+//! Feeds logs in reads to two streams, and compares after every call the answers
+//! and the whole tables: generated logs and the samples, of both byte orders, cut
+//! in several ways, and each sample cut in two at every byte. One is the second
+//! program's stream, the other what its replay says of the whole log.
+//!
+//! `stream [LOGS] [--seed SEED]`
+
+#![forbid(unsafe_code)]
+
+mod counts;
+mod cuts;
+mod driver;
+mod streaming;
+mod times;
+mod whole;
+
+use counts::Counts;
+use cuts::Way;
+use driver::Driver;
+use harness::suite::{self, Words};
+use logs::inputs::{self, Input, Kind};
+use logs::random::Random;
+use second::order::Order;
+use second::stream::Stream;
+use std::process::ExitCode;
+use streaming::Streaming;
+use times::Times;
+use whole::Whole;
+
+/// Logs where no number is given.
+const LOGS: u64 = 30_000;
+
+/// The two that are compared, at the start of a log of this order.
+fn both<'a>(times: &'a Times, order: Order) -> [Box<dyn Streaming + 'a>; 2] {
+    [
+        Box::new(Stream::start(order)),
+        Box::new(Whole::start(times)),
+    ]
+}
+
+/// A run of comparisons.
+struct Run {
+    driver: Driver,
+    counts: Counts,
+}
+
+impl Run {
+    /// Compares one log of this order, cut in one way; the text tells of a
+    /// difference.
+    fn compare(&mut self, log: &[u8], order: Order, seed: u64, name: &str) -> Result<(), String> {
+        let random = &mut Random::new(!seed);
+        let times = Times::of(log, order);
+        let way = Way::of(random, log.len());
+        let reads = way.reads(random, log);
+        let streams = both(&times, order);
+        let told = self.driver.drive(random, streams, &reads);
+        let told = told.map_err(|text| {
+            let text = format!("{way:?}, {} reads: {text}", reads.len());
+            suite::difference(name, seed, log, &text)
+        })?;
+        self.counts.log(order, way, times.end(), &told);
+        Ok(())
+    }
+
+    /// Compares one sample in this order, cut in two at every byte.
+    fn every_cut(&mut self, log: &[u8], order: Order, name: &str) -> Result<(), String> {
+        let times = Times::of(log, order);
+        for cut in 0..=log.len() {
+            let random = &mut Random::new(cut as u64);
+            let reads = [&log[..cut], &log[cut..]];
+            let told = self.driver.drive(random, both(&times, order), &reads);
+            let told = told.map_err(|text| {
+                let text = format!("cut at {cut}: {text}");
+                suite::difference(name, 0, log, &text)
+            })?;
+            self.counts.cut(order, times.end(), &told);
+        }
+        Ok(())
+    }
+}
+
+fn run(words: Words) -> Result<String, String> {
+    let (logs, seed) = words.cases(LOGS)?;
+    let mut run = Run {
+        driver: Driver::new(),
+        counts: Counts::new(),
+    };
+    for index in 0..logs {
+        let input = Input::at(index, seed);
+        let (kind, order) = (input.kind, input.order);
+        run.compare(&input.log(), order, input.seed, &input.name())?;
+        run.counts.kinds.count(kind.index(), order as usize);
+    }
+    // In the order that is theirs, and in the other.
+    for sample in inputs::samples()? {
+        for order in Order::ALL {
+            let name = format!("{}, {order:?}", sample.name);
+            run.every_cut(&sample.log, order, &name)?;
+            run.counts.kinds.count(Kind::all().len(), order as usize);
+        }
+    }
+    suite::seen(&run.counts.tables(&run.driver.calls))?;
+    let (logs, calls) = (run.counts.kinds.sum(), run.driver.calls.sum());
+    Ok(format!("stream: {logs} logs, {calls} calls, no difference"))
+}
+
+fn main() -> ExitCode {
+    suite::main(run)
+}

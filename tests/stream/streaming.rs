@@ -1,0 +1,19 @@
+//! What the two that are compared have in common.
+
+use second::stream::{Answer, Stream};
+
+/// A stream that was started, of whatever making. Each call hands it the table.
+pub trait Streaming {
+    fn feed(&mut self, read: &[u8], table: &mut [u64]) -> Answer;
+    fn end(&mut self, table: &mut [u64]) -> Answer;
+}
+
+impl Streaming for Stream {
+    fn feed(&mut self, read: &[u8], table: &mut [u64]) -> Answer {
+        Stream::feed(self, read, table)
+    }
+
+    fn end(&mut self, table: &mut [u64]) -> Answer {
+        Stream::end(self, table)
+    }
+}
