@@ -11,7 +11,7 @@ use second::stream::Answer;
 /// short.
 const SHORT: u64 = 12;
 /// Calls behind the end or a refusal.
-const AFTER: u64 = 3;
+const AFTER: u64 = 2;
 
 /// What is counted of the calls.
 const CALLS: [&str; 6] = [

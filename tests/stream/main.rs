@@ -28,7 +28,7 @@ use times::Times;
 use whole::Whole;
 
 /// Logs where no number is given.
-const LOGS: u64 = 30_000;
+const LOGS: u64 = 60_000;
 
 /// The two that are compared, at the start of a log of this order.
 fn both<'a>(times: &'a Times, order: Order) -> [Box<dyn Streaming + 'a>; 2] {
@@ -91,11 +91,13 @@ fn run(words: Words) -> Result<String, String> {
         run.compare(&input.log(), order, input.seed, &input.name())?;
         run.counts.kinds.count(kind.index(), order as usize);
     }
-    // In the order that is theirs, and in the other.
+    // In the order that is theirs at every cut, and in the other.
     for sample in inputs::samples()? {
+        let (own, other) = (sample.order, sample.order.other());
+        run.every_cut(&sample.log, own, &sample.name)?;
+        let name = format!("{}, {other:?}", sample.name);
+        run.compare(&sample.log, other, seed, &name)?;
         for order in Order::ALL {
-            let name = format!("{}, {order:?}", sample.name);
-            run.every_cut(&sample.log, order, &name)?;
             run.counts.kinds.count(Kind::all().len(), order as usize);
         }
     }

@@ -13,8 +13,11 @@ const BEHIND: u64 = 65_536;
 
 pub struct Times {
     order: Order,
-    /// The records in turn, each with the number of bytes that it is judged with.
-    judged: Vec<(u64, Record)>,
+    /// For each record in turn the number of bytes that it is judged with, and how
+    /// much of the body is made by then.
+    judged: Vec<(u64, usize)>,
+    /// The records that move the clock or the stack.
+    body: Vec<u8>,
     /// The refusal with the number of bytes that it comes with.
     fault: Option<(u64, Answer)>,
     end: End,
@@ -37,6 +40,7 @@ impl Times {
         let failed = |bytes, number| Times {
             order,
             judged: Vec::new(),
+            body: Vec::new(),
             fault: Some((bytes, refused(number))),
             end: End::Header(number),
         };
@@ -62,23 +66,34 @@ impl Times {
             Answer::Report { .. } => None,
         };
         let stop = refused.map_or(u64::MAX, |(_, place)| place);
+        let mut times = Times {
+            order,
+            judged: Vec::new(),
+            body: Vec::new(),
+            fault: refused.map(|(number, place)| (bytes(log, order, size, number, place), answer)),
+            end: End::Whole(answer),
+        };
         let header = header::unlimited(log, order).expect("it passes");
         let mut position = walk::start(&header, order);
-        let mut judged = Vec::new();
         while let Step::Found { record, next } = walk::next(log, position) {
             if position.place >= stop {
                 break;
             }
-            judged.push((position.place + record.size(), record));
+            times.judge(position.place + record.size(), &record);
             position = next;
         }
-        let fault = refused.map(|(number, place)| (bytes(log, order, size, number, place), answer));
-        Times {
-            order,
-            judged,
-            fault,
-            end: End::Whole(answer),
+        times
+    }
+
+    /// A record that is judged with so many bytes.
+    fn judge(&mut self, bytes: u64, record: &Record) {
+        match record {
+            Record::Function { .. } | Record::NewCpuId { .. } | Record::TscWrap { .. } => {
+                self.body.extend(writer::bytes(record, self.order, &[]));
+            }
+            _ => {}
         }
+        self.judged.push((bytes, self.body.len()));
     }
 
     /// Those of a log that fails 4 by its length alone: of one that starts with it
@@ -114,7 +129,7 @@ impl Times {
             .and_then(|at| decode(at, self.order));
         if let Some(record @ Record::CustomEvent { .. }) = record {
             if bytes - SIZE as u64 + record.event_size() <= size {
-                self.judged.push((bytes, record));
+                self.judge(bytes, &record);
                 self.fault = None;
             }
         }
@@ -135,20 +150,13 @@ impl Times {
         self.judged.partition_point(|(bytes, _)| *bytes <= taken)
     }
 
-    /// The table behind so many records: that of a log of one buffer, which holds
-    /// all of them that move the clock or the stack.
+    /// The table behind so many records: that of a log of one buffer that holds
+    /// what they have made of the body.
     pub fn table(&self, records: usize) -> Vec<u64> {
-        let mut body = Vec::new();
-        for (_, record) in &self.judged[..records] {
-            match record {
-                Record::Function { .. } | Record::NewCpuId { .. } | Record::TscWrap { .. } => {
-                    body.extend(writer::bytes(record, self.order, &[]));
-                }
-                _ => {}
-            }
-        }
+        let made = self.judged[..records].last().map_or(0, |(_, made)| *made);
+        let log = one_buffer(self.order, &self.body[..made]);
         let mut table = vec![0; TABLE];
-        let answer = replay::unlimited(&one_buffer(self.order, &body), self.order, &mut table);
+        let answer = replay::unlimited(&log, self.order, &mut table);
         assert!(matches!(answer, Answer::Report { .. }), "{answer:?}");
         table
     }
