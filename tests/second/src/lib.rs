@@ -3,7 +3,8 @@
 //! record to record with the grammar, replay with its table, of a whole log or
 //! of one that comes in reads, the hidden bytes and the scrubber, and the
 //! comparison of two times. All that reads or writes a log takes its byte order.
-//! After Paper 02 also the walk of a transition table (CR 7).
+//! Beside them, after Paper 02, the reader of DCFG texts over a reader of JSON
+//! (CR 6), and the walk of a transition table (CR 7).
 //!
 //! Nothing here is quick or clever: each function follows one passage of the
 //! paper and names it.
@@ -11,7 +12,9 @@
 #![forbid(unsafe_code)]
 
 pub mod compare;
+pub mod dcfg;
 pub mod header;
+pub mod json;
 pub mod log_writer;
 pub mod order;
 pub mod reader;

@@ -3,6 +3,7 @@
 mod big_endian;
 mod bytes;
 mod compare;
+mod dcfg;
 mod log_writer;
 mod reader;
 mod replay;
