@@ -1,7 +1,7 @@
--- The numbered refusals (paper 01, "The numbered refusals"; paper 02, CR 2 and CR 7). Assumes nothing.
+-- The numbered refusals (paper 01, "The numbered refusals"; paper 02, CR 1, 2, 7). Assumes nothing.
 use Prim.Native.Nat.{ℕ}
 use Rattle.refusal.specs.declared.Refusal.{Refusal}
-use Rattle.refusal.specs.declared.Refusal.the-variants.{LogLength, Version, LogType, BufferSize, PastEnd, UnknownAction, Grammar, Thread, Clock, NoOpenCall, Depth, FunctionCount, Ticks, ShortTable, NoRoom, OutOfRange, NoUnit, NoMeasuredCall, UnknownKind, TransitionTable, NoTransition, UnmatchedBits, PastWanted, BitsLeft}
+use Rattle.refusal.specs.declared.Refusal.the-variants.{LogLength, Version, LogType, BufferSize, PastEnd, UnknownAction, Grammar, Thread, Clock, NoOpenCall, Depth, FunctionCount, Ticks, ShortTable, NoRoom, OutOfRange, NoUnit, NoMeasuredCall, UnknownKind, Offset, Unsound, TransitionTable, NoTransition, UnmatchedBits, PastWanted, BitsLeft}
 
 -- The paper's number of each.
 abbrev pub numberOf : Refusal → ℕ
@@ -24,6 +24,8 @@ numberOf OutOfRange = 16
 numberOf NoUnit = 17
 numberOf NoMeasuredCall = 18
 numberOf UnknownKind = 19
+numberOf Offset = 20
+numberOf Unsound = 22
 numberOf TransitionTable = 40
 numberOf NoTransition = 41
 numberOf UnmatchedBits = 42
