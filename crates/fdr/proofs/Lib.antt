@@ -14,3 +14,4 @@ pub mod Fields
 pub mod Hiding
 pub mod Overwriting
 pub mod Covering
+pub mod Own

@@ -26,7 +26,7 @@ pub struct Pair {
     pub delta: u32,
 }
 
-fn is_function(first: u8, order: Order) -> bool
+pub fn is_function(first: u8, order: Order) -> bool
     ensures { λ r. ⌜ r ≡ isFunction order first ⌝ }
 {
     match order {

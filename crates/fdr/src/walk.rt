@@ -1,8 +1,10 @@
 // The walk from record to record, over a position by value.
 ghost use mathlib.Core.Path.{_≡_};
 ghost use Prim.Native.Nat.{ℕ, _≤_};
-ghost use Rattle.fdr.specs.Reading.{noRecord, readingOf};
-ghost use Rattle.fdr.specs.Walk.{halted, grammarTest, stepIn, next, steppingOf, startOf};
+ghost use Rattle.fdr.specs.Decoded.{known};
+ghost use Rattle.fdr.specs.Reading.{noRecord, readingOf, sizeTest};
+ghost use Rattle.fdr.specs.Record.{sizeOf};
+ghost use Rattle.fdr.specs.Walk.{halted, grammarTest, recordTest, stepIn, judged, next, steppingOf, startOf};
 ghost use Rattle.fdr.specs.Grammar.{follows};
 use crate::form::Form;
 use crate::grammar::Follow;
@@ -114,6 +116,34 @@ fn step_in(log: &[u8], at: Position, end: usize) -> Step
         return unread(read);
     };
     admit(at, end, record, next)
+}
+
+// Tests 5 (the record), then those of `admit`, of a record of so many bytes.
+fn fit(at: Position, end: usize, record: Record, size: usize) -> Step
+    requires { ⌜ size ≡ sizeOf «record» ⌝ }
+    ensures { λ r. ⌜ steppingOf r ≡ recordTest (sizeTest (known «record») end (at .place)) at end ⌝ }
+{
+    let place = at.place;
+    if end < place {
+        return refused(Refusal::PastEnd, place);
+    }
+    if end - place < size {
+        return refused(Refusal::PastEnd, place);
+    }
+    admit(at, end, record, place + size)
+}
+
+// The tests of `step_in` of a record by its own bytes. They may be fewer than it wants where its buffer ends with them: then
+// nothing behind its first byte matters.
+pub fn judge(bytes: &[u8; 32], at: Position, end: usize) -> Step
+    ensures { λ r. ⌜ steppingOf r ≡ judged (now (bytes .entry)) at end ⌝ }
+{
+    let form = at.form;
+    let read = record_at(bytes, Record::METADATA_SIZE, 0, form);
+    match read {
+        Read::Refused { refusal, place: _ } => refused(refusal, at.place),
+        Read::Found { record, next } => fit(at, end, record, next),
+    }
 }
 
 // One step, from any position at all.
