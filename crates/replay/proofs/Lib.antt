@@ -12,3 +12,6 @@ pub mod Settling
 pub mod Stepping
 pub mod TailExits
 pub mod Running
+pub mod Leading
+pub mod CallsKept
+pub mod Keeping

@@ -4,4 +4,7 @@ pub mod Step
 pub mod TailExit
 pub mod Replay
 pub mod Index
+pub mod Balance
 pub mod Private
+pub mod Stream
+pub mod Sound
