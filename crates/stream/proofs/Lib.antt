@@ -1,0 +1,7 @@
+pub mod Feeding
+pub mod Taking
+pub mod Heading
+pub mod Failing
+pub mod Whole
+pub mod Theorem
+pub mod Cut
