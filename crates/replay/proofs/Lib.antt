@@ -15,3 +15,4 @@ pub mod Running
 pub mod Leading
 pub mod CallsKept
 pub mod Keeping
+pub mod Checking

@@ -8,3 +8,4 @@ pub mod Balance
 pub mod Private
 pub mod Stream
 pub mod Sound
+pub mod State
