@@ -16,3 +16,4 @@ pub mod Leading
 pub mod CallsKept
 pub mod Keeping
 pub mod Checking
+pub mod CheckingRows
