@@ -17,3 +17,4 @@ pub mod CallsKept
 pub mod Keeping
 pub mod Checking
 pub mod CheckingRows
+pub mod CheckingState

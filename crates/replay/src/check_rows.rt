@@ -21,6 +21,7 @@ use crate::row::WIDTH;
 pub fn still_open(row: &[u16], depth: usize) -> [u16; 1024]
     requires { ⌜ (depth ≤ length (now row)) × (depth ≤ 256) × RowsBelow depth (now row) mostRows ⌝ }
     ensures { λ r. ⌜ ((since : List ℕ) (k : ℕ) → getD r k 0 ≡ opens k (callsIn depth (now (row .entry)) since)) ⌝ }
+    ensures { λ r. ⌜ length r ≡ mostRows ⌝ }
 {
     let mut counts = [0u16; 1024];
     let mut k: usize = 0;

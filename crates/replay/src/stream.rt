@@ -1,14 +1,27 @@
 // A log that arrives in reads: a state by value, which each call takes and hands back. The rows stand in the lent table.
 ghost use mathlib.Core.Path.{_≡_};
-ghost use mathlib.Core.Bool.{true};
+ghost use mathlib.Core.Bool.{true, false};
 ghost use mathlib.Core.List.{List};
-ghost use Prim.Native.Nat.{ℕ};
-ghost use Rattle.replay.specs.State.{viewed, stateSound};
+ghost use Prim.Native.Nat.{ℕ, _≤_};
+ghost use lib.ListN.{length};
+ghost use Rattle.replay.specs.Row.{cells};
+ghost use Rattle.replay.specs.State.{viewed, goingSound, stateSound, tableSound};
+ghost use Rattle.fdr.specs.Walk.{inFront};
 ghost use Rattle.replay.specs.Stream.{fresh};
 use crate::Answer;
+use crate::check::all_below;
+use crate::check::counts_sound;
+use crate::check::end_sound;
+use crate::check::held_sound;
+use crate::check::place_sound;
+use crate::check_rows::entries_within;
+use crate::check_rows::ids_rise;
+use crate::check_rows::rows_sound;
+use crate::check_rows::still_open;
 use fdr::form::Form;
 use fdr::grammar::Stage;
 use fdr::grammar::Threads;
+use fdr::reader::family_size;
 
 // What a call says: a stream that goes on asks for more.
 pub enum Reply {
@@ -48,6 +61,77 @@ pub struct Stream {
 pub struct Fed {
     pub stream: Stream,
     pub reply: Reply,
+}
+
+fn in_front(stage: Stage) -> bool
+    ensures { λ r. ⌜ r ≡ inFront stage ⌝ }
+{
+    if let Stage::Between = stage {
+        return true;
+    }
+    false
+}
+
+// A state behind the header.
+fn going_sound(x: Stream) -> bool
+    requires { ⌜ 32 ≤ x .offset ⌝ }
+    ensures { λ r. ⌜ r ≡ goingSound x ⌝ }
+{
+    let form = x.form;
+    let stage = x.stage;
+    let family = family_size(x.held[0], form) as u64;
+    let held = held_sound(x.count, family, x.skip);
+    if !held {
+        return false;
+    }
+    let front = in_front(stage);
+    let placed = place_sound(x.offset, x.buffer_size, x.skip, x.count, x.buffers, front);
+    if !placed {
+        return false;
+    }
+    let counted = counts_sound(x.offset, x.count, x.records, x.buffers, x.depth, x.rows);
+    if !counted {
+        return false;
+    }
+    let stacked = all_below(&x.row, x.depth, x.rows);
+    if !stacked {
+        return false;
+    }
+    all_below(&x.index, x.rows, x.rows)
+}
+
+// The test of a state that is handed in.
+fn state_sound(x: Stream) -> bool
+    ensures { λ r. ⌜ r ≡ stateSound x ⌝ }
+{
+    if x.over {
+        let answer = x.answer;
+        return end_sound(x.offset, answer);
+    }
+    if x.offset < 32 {
+        return x.count == x.offset;
+    }
+    going_sound(x)
+}
+
+// The test of the rows beside a state.
+fn table_sound(x: Stream, table: &[u64]) -> bool
+    requires { ⌜ (stateSound x ≡ true) × (x .over ≡ false) × (cells ≤ length (now table)) ⌝ }
+    ensures { λ r. ⌜ r ≡ tableSound x (now (table .entry)) ⌝ }
+{
+    if x.offset < 32 {
+        return true;
+    }
+    let still = still_open(&x.row, x.depth);
+    let even = rows_sound(table, x.rows, &still);
+    if !even {
+        return false;
+    }
+    let within = entries_within(table, x.rows, x.records);
+    if !within {
+        return false;
+    }
+    ids_rise(&x.index, table, x.rows)
 }
 
 impl Stream {

@@ -74,8 +74,10 @@ loop-again c =
 returns : tie.Need-returns Inv-loop μ-loop
 returns c =
     let d = c .before in
-    let e : d .loop .k ≡ d .before .args .depth = omega arith in
-    λ since r. d .loop .inv .2 since r ∙ ap (λ (n : ℕ). opens r (callsIn n (d .before .args .row .now) since)) e
+    let e : d .loop .k ≡ d .before .args .depth = omega arith in (
+      (λ since r. d .loop .inv .2 since r ∙ ap (λ (n : ℕ). opens r (callsIn n (d .before .args .row .now) since)) e),
+      d .loop .inv .1,
+    )
 
 pub still-open-spec : {M : Type 1} → statement M
 still-open-spec =
