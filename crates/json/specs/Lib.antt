@@ -1,0 +1,10 @@
+pub mod Bytes
+pub mod Escapes
+pub mod Utf8
+pub mod Chars
+pub mod Strings
+pub mod Numbers
+pub mod Plain
+pub mod Integers
+pub mod Bounds
+pub mod Examples
