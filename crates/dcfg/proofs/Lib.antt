@@ -1,0 +1,10 @@
+pub mod ItemPlaces
+pub mod EntryPlaces
+pub mod Orders
+pub mod Ordering
+pub mod Swapping
+pub mod Heaps
+pub mod LeastRepeats
+pub mod Comparing
+pub mod Parts
+pub mod Answering

@@ -1,0 +1,85 @@
+-- What the private functions promise: places and keys in their bounds, and what is lent. Assumes nothing.
+use Prim.Native.Nat.{ℕ, _+_, _-_, _*_, _≤_, _<_}
+use mathlib.Core.Path.{_≡_}
+use mathlib.Core.Logic.{_⊎_}
+use mathlib.Core.List.{List, []}
+use lib.ListN.{length, getD, set, take, drop}
+use Rattle.json.specs.declared.Read.{Read}
+use Rattle.json.specs.declared.Read.the-variants.{At, No}
+use Rattle.json.specs.Bounds.{ReadIn}
+use Rattle.dcfg.specs.declared.items.Piece.{Piece}
+use Rattle.dcfg.specs.declared.items.Piece.the-variants.{Close, Next as Item, Stray}
+use Rattle.dcfg.specs.declared.entries.Entry.{Entry}
+use Rattle.dcfg.specs.declared.entries.Entry.the-variants.{Value, Over}
+use Rattle.dcfg.specs.Repeated.{First, none, first, repeatedIn}
+use Rattle.dcfg.specs.Entries.{Next, value, over}
+use Rattle.dcfg.specs.Sorting.{Swaps, part}
+
+-- An item lies behind `low`, at `high` at the latest.
+abbrev pub PieceIn : ℕ → ℕ → Piece → Type 0
+PieceIn low high (Close n) = (low < n) × (n ≤ high)
+PieceIn low high (Item n) = (low < n) × (n ≤ high)
+PieceIn low high (Stray p) = 0 ≤ p
+
+-- What the code hands on of a `Next`, with n keys before; and the key's place in the lent array.
+abbrev pub countOf : ℕ → First → ℕ
+countOf n none = n
+countOf n (first q) = n + 1
+
+abbrev pub entryOf : Next → ℕ → Entry
+entryOf (value i k) n = Value i (countOf n k)
+entryOf (over r k) n = Over r (countOf n k)
+
+abbrev pub kept : List ℕ → ℕ → First → List ℕ
+kept l n none = l
+kept l n (first q) = set l n q
+
+abbrev pub keptOf : Next → List ℕ → ℕ → List ℕ
+keptOf (value i k) l n = kept l n k
+keptOf (over r k) l n = kept l n k
+
+-- The next value lies behind `low`; each key took three bytes.
+abbrev pub EntryIn : ℕ → ℕ → ℕ → Entry → Type 0
+EntryIn low high n (Value v m) = (low < v) × (v ≤ high) × (3 * m ≤ v) × (n ≤ m)
+EntryIn low high n (Over out m) = (n ≤ m) × (3 * m ≤ high) × ReadIn low high out
+
+-- A place at which a key stands.
+unfoldable pub Place : List ℕ → ℕ → Type 0
+Place s p = p < length s
+
+-- The number that stands for no place.
+abbrev pub noPlace : ℕ
+noPlace = 0xFFFFFFFF
+
+unfoldable pub placeOf : First → ℕ
+placeOf none = noPlace
+placeOf (first q) = q
+
+-- The place q of the run a, at which stands what stands at a lesser place of the run.
+pub record Repeat (at : ℕ → List ℕ) (a : List ℕ) (q : ℕ) : Type 0 where
+  pub here : ℕ
+  pub here-in : here < length a
+  pub here-is : getD a here 0 ≡ q
+  pub other : ℕ
+  pub other-in : other < length a
+  pub lesser : getD a other 0 < q
+  pub alike : at (getD a other 0) ≡ at q
+
+-- r is the least such place, or noPlace.
+pub record LeastRepeat (at : ℕ → List ℕ) (a : List ℕ) (r : ℕ) : Type 0 where
+  pub fits : r ≤ noPlace
+  pub found : (r ≡ noPlace) ⊎ Repeat at a r
+  pub least : (q : ℕ) → Repeat at a q → r ≤ q
+
+-- A neighbour with the same key lowers the least repeat so far.
+pub record Lowered (at : ℕ → List ℕ) (a b f r : ℕ) : Type 0 where
+  pub falls : r ≤ f
+  pub counts : at a ≡ at b → r ≤ b
+  pub one-of : (r ≡ f) ⊎ ((at a ≡ at b) × (r ≡ b))
+
+-- The answer for the run from base to top: the definition's, and nothing else of the keys is changed.
+pub record Answered (at : ℕ → List ℕ) (base top : ℕ) (a : List ℕ) (r : ℕ) (b : List ℕ) : Type 0 where
+  pub answer : r ≡ placeOf (repeatedIn at [] (part a base top))
+  pub below : take base b ≡ take base a
+  pub above : drop top b ≡ drop top a
+  pub swaps : Swaps (top - base) (part a base top) (part b base top)

@@ -1,0 +1,6 @@
+// A DCFG: its edges and threads, in reading order.
+mod entries;
+mod heap;
+mod items;
+mod keys;
+mod repeats;
