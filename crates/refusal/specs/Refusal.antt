@@ -1,7 +1,7 @@
--- The numbered refusals (paper 01, "The numbered refusals"; paper 02, CR 1, 2, 7). Assumes nothing.
+-- The numbered refusals (paper 01, "The numbered refusals"; paper 02, CR 1, 2, 6, 7). Assumes nothing.
 use Prim.Native.Nat.{ℕ}
 use Rattle.refusal.specs.declared.Refusal.{Refusal}
-use Rattle.refusal.specs.declared.Refusal.the-variants.{LogLength, Version, LogType, BufferSize, PastEnd, UnknownAction, Grammar, Thread, Clock, NoOpenCall, Depth, FunctionCount, Ticks, ShortTable, NoRoom, OutOfRange, NoUnit, NoMeasuredCall, UnknownKind, Offset, Unsound, TransitionTable, NoTransition, UnmatchedBits, PastWanted, BitsLeft}
+use Rattle.refusal.specs.declared.Refusal.the-variants.{LogLength, Version, LogType, BufferSize, PastEnd, UnknownAction, Grammar, Thread, Clock, NoOpenCall, Depth, FunctionCount, Ticks, ShortTable, NoRoom, OutOfRange, NoUnit, NoMeasuredCall, UnknownKind, Offset, Unsound, TextLength, NotJson, Nesting, RepeatedName, WrongKind, IdOutside, RepeatedId, ListCount, Missing, CountSum, TransitionTable, NoTransition, UnmatchedBits, PastWanted, BitsLeft}
 
 -- The paper's number of each.
 abbrev pub numberOf : Refusal → ℕ
@@ -26,6 +26,16 @@ numberOf NoMeasuredCall = 18
 numberOf UnknownKind = 19
 numberOf Offset = 20
 numberOf Unsound = 22
+numberOf TextLength = 30
+numberOf NotJson = 31
+numberOf Nesting = 32
+numberOf RepeatedName = 33
+numberOf WrongKind = 34
+numberOf IdOutside = 35
+numberOf RepeatedId = 36
+numberOf ListCount = 37
+numberOf Missing = 38
+numberOf CountSum = 39
 numberOf TransitionTable = 40
 numberOf NoTransition = 41
 numberOf UnmatchedBits = 42

@@ -83,6 +83,36 @@ enum-told-25 c = search needs
 enum-told-26 : tie.Need-enum-told-26
 enum-told-26 c = search needs
 
+enum-told-27 : tie.Need-enum-told-27
+enum-told-27 c = search needs
+
+enum-told-28 : tie.Need-enum-told-28
+enum-told-28 c = search needs
+
+enum-told-29 : tie.Need-enum-told-29
+enum-told-29 c = search needs
+
+enum-told-30 : tie.Need-enum-told-30
+enum-told-30 c = search needs
+
+enum-told-31 : tie.Need-enum-told-31
+enum-told-31 c = search needs
+
+enum-told-32 : tie.Need-enum-told-32
+enum-told-32 c = search needs
+
+enum-told-33 : tie.Need-enum-told-33
+enum-told-33 c = search needs
+
+enum-told-34 : tie.Need-enum-told-34
+enum-told-34 c = search needs
+
+enum-told-35 : tie.Need-enum-told-35
+enum-told-35 c = search needs
+
+enum-told-36 : tie.Need-enum-told-36
+enum-told-36 c = search needs
+
 returns : tie.Need-returns
 returns c = ap numberOf (sym (c .enum-told .given .1))
 
@@ -161,6 +191,36 @@ returns-25 c = ap numberOf (sym (c .enum-told25 .given .1))
 returns-26 : tie.Need-returns-26
 returns-26 c = ap numberOf (sym (c .enum-told26 .given .1))
 
+returns-27 : tie.Need-returns-27
+returns-27 c = ap numberOf (sym (c .enum-told27 .given .1))
+
+returns-28 : tie.Need-returns-28
+returns-28 c = ap numberOf (sym (c .enum-told28 .given .1))
+
+returns-29 : tie.Need-returns-29
+returns-29 c = ap numberOf (sym (c .enum-told29 .given .1))
+
+returns-30 : tie.Need-returns-30
+returns-30 c = ap numberOf (sym (c .enum-told30 .given .1))
+
+returns-31 : tie.Need-returns-31
+returns-31 c = ap numberOf (sym (c .enum-told31 .given .1))
+
+returns-32 : tie.Need-returns-32
+returns-32 c = ap numberOf (sym (c .enum-told32 .given .1))
+
+returns-33 : tie.Need-returns-33
+returns-33 c = ap numberOf (sym (c .enum-told33 .given .1))
+
+returns-34 : tie.Need-returns-34
+returns-34 c = ap numberOf (sym (c .enum-told34 .given .1))
+
+returns-35 : tie.Need-returns-35
+returns-35 c = ap numberOf (sym (c .enum-told35 .given .1))
+
+returns-36 : tie.Need-returns-36
+returns-36 c = ap numberOf (sym (c .enum-told36 .given .1))
+
 pub number-spec : {M : Type 1} → statement M
 number-spec =
     tie.close
@@ -191,6 +251,16 @@ number-spec =
     enum-told-24
     enum-told-25
     enum-told-26
+    enum-told-27
+    enum-told-28
+    enum-told-29
+    enum-told-30
+    enum-told-31
+    enum-told-32
+    enum-told-33
+    enum-told-34
+    enum-told-35
+    enum-told-36
     returns
     returns-2
     returns-3
@@ -216,4 +286,14 @@ number-spec =
     returns-23
     returns-24
     returns-25
-    returns-26)
+    returns-26
+    returns-27
+    returns-28
+    returns-29
+    returns-30
+    returns-31
+    returns-32
+    returns-33
+    returns-34
+    returns-35
+    returns-36)
