@@ -1,5 +1,10 @@
 pub mod ItemPlaces
 pub mod EntryPlaces
+pub mod Folding
+pub mod Settling
+pub mod Holding
+pub mod Passing
+pub mod Skipping
 pub mod Orders
 pub mod Ordering
 pub mod Swapping

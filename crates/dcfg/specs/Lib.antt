@@ -1,6 +1,9 @@
 pub mod Items
 pub mod Entries
 pub mod Repeated
+pub mod Reading
+pub mod Skipped
 pub mod Order
 pub mod Sorting
 pub mod Private
+pub mod Examples

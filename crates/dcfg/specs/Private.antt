@@ -14,6 +14,15 @@ use Rattle.dcfg.specs.declared.entries.Entry.the-variants.{Value, Over}
 use Rattle.dcfg.specs.Repeated.{First, none, first, repeatedIn}
 use Rattle.dcfg.specs.Entries.{Next, value, over}
 use Rattle.dcfg.specs.Sorting.{Swaps, part}
+use Rattle.refusal.specs.Refusal.{numberOf}
+use Rattle.dcfg.specs.declared.passed.Passed.{Passed}
+use Rattle.dcfg.specs.declared.passed.Passed.the-variants.{To, Refused}
+use Rattle.dcfg.specs.Reading.{Step, go, halt}
+
+-- What the code's answer says.
+abbrev pub stepOf : Passed → Step (Unit {0})
+stepOf (To n) = go n tt
+stepOf (Refused why place) = halt (numberOf why) place tt
 
 -- An item lies behind `low`, at `high` at the latest.
 abbrev pub PieceIn : ℕ → ℕ → Piece → Type 0

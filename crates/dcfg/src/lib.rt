@@ -3,4 +3,6 @@ mod entries;
 mod heap;
 mod items;
 mod keys;
+mod passed;
 mod repeats;
+mod skip;

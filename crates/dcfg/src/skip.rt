@@ -1,0 +1,74 @@
+// A value that is skipped, whatever it is.
+ghost use mathlib.Core.Path.{_≡_};
+ghost use mathlib.Core.Bool.{false};
+ghost use Prim.Native.Nat.{_*_, _≤_};
+ghost use lib.ListN.{length, take};
+ghost use Rattle.dcfg.specs.Reading.{fold, unlessRepeated};
+ghost use Rattle.dcfg.specs.Skipped.{skipped};
+ghost use Rattle.dcfg.specs.Sorting.{Each, Rising, part};
+ghost use Rattle.dcfg.specs.Private.{stepOf, Place};
+use crate::entries::Entry;
+use crate::entries::member;
+use crate::entries::opens;
+use crate::passed::Passed;
+use crate::passed::told;
+use crate::repeats::NONE;
+use crate::repeats::first_repeat;
+use json::Read;
+use json::bytes::byte;
+use json::plain::plain;
+use refusal::Refusal;
+
+// What ended the reading of an object, unless one of the keys from `base` to `top` is repeated.
+pub fn settle(text: &[u8], keys: &mut [u32], base: usize, top: usize, out: Passed) -> Passed
+    requires { ⌜ (length (now text) ≤ 1048576) × (base ≤ top) × (top ≤ length (now keys)) ⌝ }
+    requires { ⌜ Rising (part (now keys) base top) × Each (Place (now text)) (part (now keys) base top) ⌝ }
+    ensures { λ r. ⌜ (stepOf r ≡ unlessRepeated (now (text .entry)) false (fold (stepOf out) (part (now (keys .entry)) base top))) × (take base (now (keys .exit)) ≡ take base (now (keys .entry))) ⌝ }
+{
+    let first = first_repeat(text, false, keys, base, top);
+    if first == NONE {
+        return out;
+    }
+    let at = first as usize;
+    match plain(text, at) {
+        Read::At(next) => {
+            let last = next - 1;
+            Passed::Refused(Refusal::RepeatedName, last)
+        }
+        Read::No(place) => Passed::Refused(Refusal::NotJson, place),
+    }
+}
+
+// `left` arrays or objects may be opened one inside the other.
+pub fn skip(text: &[u8], at: usize, left: u32, keys: &mut [u32], top: usize) -> Passed
+    requires { ⌜ (at ≤ length (now text)) × (length (now text) ≤ 1048576) × (3 * top ≤ at) × (349526 ≤ length (now keys)) ⌝ }
+    ensures { λ r. ⌜ (stepOf r ≡ skipped left (now (text .entry)) at) × (take top (now (keys .exit)) ≡ take top (now (keys .entry))) ⌝ }
+{
+    if !opens(byte(text, at)) {
+        return told(plain(text, at));
+    }
+    if left == 0 {
+        return Passed::Refused(Refusal::Nesting, at);
+    }
+    let mut from = at;
+    let mut n = top;
+    loop {
+        match member(text, at, from, keys, n) {
+            Entry::Over(out, m) => {
+                return settle(text, keys, top, m, told(out));
+            }
+            Entry::Value(value, m) => {
+                n = m;
+                let out = skip(text, value, left - 1, keys, n);
+                match out {
+                    Passed::To(next) => {
+                        from = next;
+                    }
+                    Passed::Refused(_, _) => {
+                        return settle(text, keys, top, n, out);
+                    }
+                }
+            }
+        }
+    }
+}
