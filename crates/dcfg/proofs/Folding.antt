@@ -61,7 +61,7 @@ StepIn low high (halt m p a) = 0 ≤ p
 abbrev pub FoldIn : {A : Type 0} → ℕ → ℕ → Fold A → Type 0
 FoldIn low high (fold r keys) = StepIn low high r
 
-stop-in : {A : Type 0} (low high : ℕ) (r : Read) (a : A) → ReadIn low high r → StepIn low high (stop r a)
+pub stop-in : {A : Type 0} (low high : ℕ) (r : Read) (a : A) → ReadIn low high r → StepIn low high (stop r a)
 stop-in low high (At n) a h = h
 stop-in low high (No p) a h = h
 

@@ -5,6 +5,7 @@ pub mod Settling
 pub mod Holding
 pub mod Passing
 pub mod Skipping
+pub mod Judging
 pub mod Orders
 pub mod Ordering
 pub mod Swapping

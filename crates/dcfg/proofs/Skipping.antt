@@ -20,7 +20,7 @@ use Rattle.dcfg.specs.Entries.{opens, nextIn, value}
 use Rattle.dcfg.specs.Reading.{Step, go, halt, stop, fold, pass, unlessRepeated}
 use Rattle.dcfg.specs.Skipped.{skipped}
 use Rattle.dcfg.specs.Sorting.{Each, Rising, part}
-use Rattle.dcfg.specs.Private.{entryOf, keptOf, stepOf, Place}
+use Rattle.dcfg.specs.Private.{entryOf, keptOf, stepOf, Room, Place}
 use Rattle.dcfg.proofs.Folding.{Forward, StepIn, NextIn, next-between, opens-inside, skipped-in}
 use Rattle.dcfg.proofs.Holding.{settle-ready}
 use Rattle.dcfg.proofs.Passing.{WasValue, was-over, was-value, Passing, Reading, Ended, passing-start, passing-over, passing-value, passing-go, passing-halt}
@@ -99,8 +99,8 @@ module _ {s : List ℕ} {left at : ℕ} {keys₀ : List ℕ} {top : ℕ} (o : Op
     r : Reading s (deeper s left) at tt keys₀ top keys′ v m tt (w .key)
     r = passing-value s (deeper s left) at inside (deeper-forward s left) tt keys₀ top small big keys from n tt p v m keys′ w
 
-    pub skip-value : (v ≤ length s) × (length s ≤ 1048576) × (3 * m ≤ v) × (349526 ≤ length keys′)
-    skip-value = (r .held .within, small, r .held .room, omega (arith, r .held .long))
+    pub skip-value : Room s v keys′ m
+    skip-value = record { within = r .held .within; small = small; room = r .held .room; big = omega (arith, r .held .long) }
 
     module _ {out : Passed} (got : stepOf out ≡ skipped (left - 1) s v) (keys″ : List ℕ) (len : length keys″ ≡ length keys′) (kept-below : take m keys″ ≡ take m keys′) where
       pub skip-next : {next : ℕ} → out ≡ To next → Skipping s left at keys₀ top keys″ next m

@@ -3,6 +3,7 @@ pub mod Entries
 pub mod Repeated
 pub mod Reading
 pub mod Skipped
+pub mod Kinds
 pub mod Order
 pub mod Sorting
 pub mod Private

@@ -17,12 +17,26 @@ use Rattle.dcfg.specs.Sorting.{Swaps, part}
 use Rattle.refusal.specs.Refusal.{numberOf}
 use Rattle.dcfg.specs.declared.passed.Passed.{Passed}
 use Rattle.dcfg.specs.declared.passed.Passed.the-variants.{To, Refused}
+use Rattle.dcfg.specs.declared.kinds.Got.{Got}
+use Rattle.dcfg.specs.declared.kinds.Got.the-variants.{Is, Not}
 use Rattle.dcfg.specs.Reading.{Step, go, halt}
 
 -- What the code's answer says.
 abbrev pub stepOf : Passed → Step (Unit {0})
 stepOf (To n) = go n tt
 stepOf (Refused why place) = halt (numberOf why) place tt
+
+-- An integer, or a refusal.
+abbrev pub integerStepOf : Got → Step ℕ
+integerStepOf (Is v n) = go n v
+integerStepOf (Not why place) = halt (numberOf why) place 0
+
+-- A value at a place may be read: there is room for the places of its keys behind the first `top`.
+pub record Room (s : List ℕ) (at : ℕ) (keys : List ℕ) (top : ℕ) : Type 0 where
+  pub within : at ≤ length s
+  pub small : length s ≤ 1048576
+  pub room : 3 * top ≤ at
+  pub big : 349526 ≤ length keys
 
 -- An item lies behind `low`, at `high` at the latest.
 abbrev pub PieceIn : ℕ → ℕ → Piece → Type 0

@@ -46,6 +46,10 @@ each (suc n) f s o from keys a = turn f (each n f s o) keys a (nextIn s o from)
 unfoldable pub pass : {A : Type 0} → (A → First → ℕ → Step A) → List ℕ → ℕ → A → Fold A
 pass f s o a = each (suc (length s)) f s o o [] a
 
+-- How a pass ended, whatever keys it read.
+abbrev pub ended : {A : Type 0} → Fold A → Step A
+ended (fold r keys) = r
+
 abbrev pub noted : {A : Type 0} → Step A → A
 noted (go n a) = a
 noted (halt m p a) = a

@@ -3,6 +3,7 @@ mod entries;
 mod heap;
 mod items;
 mod keys;
+mod kinds;
 mod passed;
 mod repeats;
 mod skip;

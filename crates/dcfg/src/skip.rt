@@ -1,12 +1,12 @@
 // A value that is skipped, whatever it is.
 ghost use mathlib.Core.Path.{_≡_};
 ghost use mathlib.Core.Bool.{false};
-ghost use Prim.Native.Nat.{_*_, _≤_};
+ghost use Prim.Native.Nat.{_≤_};
 ghost use lib.ListN.{length, take};
 ghost use Rattle.dcfg.specs.Reading.{fold, unlessRepeated};
 ghost use Rattle.dcfg.specs.Skipped.{skipped};
 ghost use Rattle.dcfg.specs.Sorting.{Each, Rising, part};
-ghost use Rattle.dcfg.specs.Private.{stepOf, Place};
+ghost use Rattle.dcfg.specs.Private.{stepOf, Room, Place};
 use crate::entries::Entry;
 use crate::entries::member;
 use crate::entries::opens;
@@ -41,7 +41,7 @@ pub fn settle(text: &[u8], keys: &mut [u32], base: usize, top: usize, out: Passe
 
 // `left` arrays or objects may be opened one inside the other.
 pub fn skip(text: &[u8], at: usize, left: u32, keys: &mut [u32], top: usize) -> Passed
-    requires { ⌜ (at ≤ length (now text)) × (length (now text) ≤ 1048576) × (3 * top ≤ at) × (349526 ≤ length (now keys)) ⌝ }
+    requires { ⌜ Room (now text) at (now keys) top ⌝ }
     ensures { λ r. ⌜ (stepOf r ≡ skipped left (now (text .entry)) at) × (take top (now (keys .exit)) ≡ take top (now (keys .entry))) ⌝ }
 {
     if !opens(byte(text, at)) {

@@ -46,7 +46,7 @@ skip-μ-loop text at left keys₀ top from₀ n₀ keys from n = length text - f
 opened : (t : ℕ) (c : skip-lts.Else2 (claims t) (skip-at t) skip.Post skip-Inv-loop skip-μ-loop)
     → Opened (c .before .before .before .before .before .before .args .text .now) (c .before .before .before .before .before .before .args .left) (c .before .before .before .before .before .before .args .at) (c .before .before .before .before .before .before .args .keys .now) (c .before .before .before .before .before .before .args .top)
 opened t c = let s = c .before .before .before .before .before .before in
-    opened-by (s .args .text .now) (s .args .left) (s .args .at) (s .args .keys .now) (s .args .top) (c .before .before .before .byte .ensures) (c .before .before .opens .ensures) (c .before .if1 .left) (c .if2 .left) (s .pre .1 .1) (s .pre .1 .3)
+    opened-by (s .args .text .now) (s .args .left) (s .args .at) (s .args .keys .now) (s .args .top) (c .before .before .before .byte .ensures) (c .before .before .opens .ensures) (c .before .if1 .left) (c .if2 .left) (s .pre .1 .small) (s .pre .1 .big)
 
 skip-byte-requires : (t : ℕ) → skip-lts.Need-byte-requires (claims t) (skip-at t) skip.Post skip-Inv-loop skip-μ-loop
 skip-byte-requires t c κs = search needs
@@ -68,7 +68,7 @@ skip-returns-2 t c = (skipped-deep _ _ _ (ap opens (sym (c .before .before .befo
 
 skip-loop-holds : (t : ℕ) → skip-lts.Need-loop-holds (claims t) (skip-at t) skip.Post skip-Inv-loop skip-μ-loop
 skip-loop-holds t c = let o = opened t c in
-    skip-start o (c .before .before .before .before .before .before .pre .1 .2)
+    skip-start o (c .before .before .before .before .before .before .pre .1 .room)
 
 skip-member-requires : (t : ℕ) → skip-lts.Need-member-requires (claims t) (skip-at t) skip.Post skip-Inv-loop skip-μ-loop
 skip-member-requires t c κs = let o = opened t (c .before .before) in

@@ -1,0 +1,113 @@
+// What kind a value is of: it is read as what is wanted, or it is refused at its last byte.
+ghost use mathlib.Core.Path.{_≡_};
+ghost use Prim.Native.Nat.{_<_};
+ghost use lib.ListN.{length, take};
+ghost use Rattle.json.specs.Bounds.{ReadIn};
+ghost use Rattle.dcfg.specs.Kinds as spec;
+ghost use Rattle.dcfg.specs.Private.{stepOf, integerStepOf, Room};
+use crate::entries::Entry;
+use crate::entries::member;
+use crate::entries::opens;
+use crate::passed::Passed;
+use crate::passed::told;
+use crate::skip::skip;
+use json::Read;
+use json::bytes::byte;
+use json::integers::Int;
+use json::integers::integer;
+use json::plain::plain;
+use json::strings::string;
+use refusal::Refusal;
+
+// An integer and the place behind it, or a refusal.
+pub enum Got {
+    Is(u64, usize),
+    Not(Refusal, usize),
+}
+
+const DEEPEST: u32 = 32;
+
+pub fn wrong(text: &[u8], at: usize, keys: &mut [u32], top: usize) -> Passed
+    requires { ⌜ Room (now text) at (now keys) top ⌝ }
+    ensures { λ r. ⌜ (stepOf r ≡ spec.wrong (now (text .entry)) at) × (take top (now (keys .exit)) ≡ take top (now (keys .entry))) ⌝ }
+{
+    let out = skip(text, at, DEEPEST, keys, top);
+    match out {
+        Passed::To(next) => {
+            let last = next - 1;
+            Passed::Refused(Refusal::WrongKind, last)
+        }
+        Passed::Refused(_, _) => out,
+    }
+}
+
+pub fn a_string(text: &[u8], at: usize, keys: &mut [u32], top: usize) -> Passed
+    requires { ⌜ Room (now text) at (now keys) top ⌝ }
+    ensures { λ r. ⌜ (stepOf r ≡ spec.aString (now (text .entry)) at) × (take top (now (keys .exit)) ≡ take top (now (keys .entry))) ⌝ }
+{
+    if byte(text, at) == b'"' {
+        return told(string(text, at));
+    }
+    wrong(text, at, keys, top)
+}
+
+fn judged(text: &[u8], at: usize, read: Read) -> Got
+    requires { ⌜ ReadIn at (length (now text)) read ⌝ }
+    ensures { λ r. ⌜ integerStepOf r ≡ spec.judged (now (text .entry)) at read ⌝ }
+{
+    match read {
+        Read::At(next) => match integer(text, at, next) {
+            Int::Is(value) => Got::Is(value, next),
+            Int::Not => {
+                let last = next - 1;
+                Got::Not(Refusal::WrongKind, last)
+            }
+        },
+        Read::No(place) => Got::Not(Refusal::NotJson, place),
+    }
+}
+
+fn none_of(out: Passed) -> Got
+    ensures { λ r. ⌜ integerStepOf r ≡ spec.noting 0 (stepOf out) ⌝ }
+{
+    match out {
+        Passed::To(next) => Got::Is(0, next),
+        Passed::Refused(why, place) => Got::Not(why, place),
+    }
+}
+
+pub fn an_integer(text: &[u8], at: usize, keys: &mut [u32], top: usize) -> Got
+    requires { ⌜ Room (now text) at (now keys) top ⌝ }
+    ensures { λ r. ⌜ (integerStepOf r ≡ spec.anInteger (now (text .entry)) at) × (take top (now (keys .exit)) ≡ take top (now (keys .entry))) ⌝ }
+{
+    if opens(byte(text, at)) {
+        return none_of(wrong(text, at, keys, top));
+    }
+    judged(text, at, plain(text, at))
+}
+
+fn in_range(value: u64, next: usize) -> Got
+    requires { ⌜ 0 < next ⌝ }
+    ensures { λ r. ⌜ integerStepOf r ≡ spec.inRange next value ⌝ }
+{
+    if value < 1 {
+        let last = next - 1;
+        return Got::Not(Refusal::IdOutside, last);
+    }
+    if 2147483647 < value {
+        let last = next - 1;
+        return Got::Not(Refusal::IdOutside, last);
+    }
+    Got::Is(value, next)
+}
+
+pub fn an_id(text: &[u8], at: usize, keys: &mut [u32], top: usize) -> Got
+    requires { ⌜ Room (now text) at (now keys) top ⌝ }
+    ensures { λ r. ⌜ (integerStepOf r ≡ spec.anId (now (text .entry)) at) × (take top (now (keys .exit)) ≡ take top (now (keys .entry))) ⌝ }
+{
+    let got = an_integer(text, at, keys, top);
+    match got {
+        Got::Is(value, next) => in_range(value, next),
+        Got::Not(_, _) => got,
+    }
+}
