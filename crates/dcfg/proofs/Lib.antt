@@ -6,6 +6,8 @@ pub mod Holding
 pub mod Passing
 pub mod Skipping
 pub mod Judging
+pub mod Counting
+pub mod Naming
 pub mod Orders
 pub mod Ordering
 pub mod Swapping

@@ -1,5 +1,5 @@
 -- A loop that makes a pass: what is left of it comes to what the whole does. Assumes nothing.
-use Prim.Native.Nat.{ℕ, suc, _+_, _*_, _≤_, _<_}
+use Prim.Native.Nat.{ℕ, suc, _+_, _-_, _*_, _≤_, _<_}
 use mathlib.Core.Path.{_≡_, refl, sym, ap, _∙_, subst}
 use mathlib.Core.List.{List, []}
 use native.Mathlib.Omega.{arith}
@@ -11,10 +11,10 @@ use Rattle.dcfg.specs.declared.entries.Entry.the-variants.{Value, Over}
 use Rattle.dcfg.specs.Repeated.{First}
 use Rattle.dcfg.specs.Entries.{Next, value, over, nextIn}
 use Rattle.dcfg.specs.Reading.{Step, go, halt, stop, Fold, fold, grown, after, turn, each, pass}
-use Rattle.dcfg.specs.Sorting.{part}
-use Rattle.dcfg.specs.Private.{countOf, entryOf, kept, keptOf}
+use Rattle.dcfg.specs.Sorting.{Each, Rising, part}
+use Rattle.dcfg.specs.Private.{countOf, entryOf, kept, keptOf, Room, Place}
 use Rattle.dcfg.proofs.Folding.{KeyIn, NextIn, next-between, StepIn, Forward, each-again}
-use Rattle.dcfg.proofs.Holding.{Held, held-start, held-key, part-kept, held-call, part-call, held-room, part-empty, held-on}
+use Rattle.dcfg.proofs.Holding.{Held, held-start, held-key, part-kept, held-call, part-call, held-room, part-empty, held-on, settle-ready}
 
 -- What a member's answer says of what comes next.
 pub record WasOver (x : Next) (n : ℕ) (keys : List ℕ) (r : Read) (m : ℕ) (keys′ : List ℕ) : Type 0 where
@@ -106,3 +106,52 @@ module _ {A : Type 0} (s : List ℕ) (f : A → First → ℕ → Step A) (o : �
 
     pub passing-halt : (number place : ℕ) (b : A) → f a k v ≡ halt number place b → Ended s f o a₀ keys₀ top keys′ m (halt number place b)
     passing-halt number place b q = record { held = held-on s keys₀ top keys′ v m (length s) kept-on (p .held .within) (omega arith); rest = come (halt number place b) q }
+
+-- The same by what `member` answers: an array or object opens at o, and there is room for its keys.
+pub record Opening (s : List ℕ) (o : ℕ) (keys₀ : List ℕ) : Type 0 where
+  pub inside : o < length s
+  pub small : length s ≤ 1048576
+  pub big : 349526 ≤ length keys₀
+
+module _ {A : Type 0} {s : List ℕ} (f : A → First → ℕ → Step A) (fw : Forward s f) {o : ℕ} {a₀ : A} {keys₀ : List ℕ} {top : ℕ} (w : Opening s o keys₀) where
+  pub pass-start : 3 * top ≤ o → Passing s f o a₀ keys₀ top keys₀ o top a₀
+  pass-start r = passing-start s f o (w .inside) fw a₀ keys₀ top (w .small) (w .big) r
+
+  pub pass-member : {keys : List ℕ} {from n : ℕ} {a : A} → Passing s f o a₀ keys₀ top keys from n a
+      → (o < length s) × (from ≤ length s) × (length s ≤ 1048576) × (3 * n ≤ from) × (349526 ≤ length keys)
+  pass-member p = (w .inside, p .held .within, w .small, p .held .room, omega (arith, p .held .long, w .big))
+
+  pub pass-over : {keys : List ℕ} {from n : ℕ} {a : A} → Passing s f o a₀ keys₀ top keys from n a
+      → {e : Entry} {keys′ : List ℕ} → e ≡ entryOf (nextIn s o from) n → keys′ ≡ keptOf (nextIn s o from) keys n
+      → {r : Read} {m : ℕ} → e ≡ Over r m → Ended s f o a₀ keys₀ top keys′ m (stop r a)
+  pass-over {keys} {from} {n} {a} p {e} {keys′} x y {r} {m} z = passing-over s f o (w .inside) fw a₀ keys₀ top (w .small) (w .big) keys from n a p r m keys′
+      (was-over (nextIn s o from) n keys r m keys′ (sym x ∙ z) y)
+
+  module _ {keys : List ℕ} {from n : ℕ} {a : A} (p : Passing s f o a₀ keys₀ top keys from n a)
+      {e : Entry} {keys′ : List ℕ} (x : e ≡ entryOf (nextIn s o from) n) (y : keys′ ≡ keptOf (nextIn s o from) keys n) {v m : ℕ} (z : e ≡ Value v m) where
+    pub told-value : WasValue (nextIn s o from) n keys v m keys′
+    told-value = was-value (nextIn s o from) n keys v m keys′ (sym x ∙ z) y
+
+    reading : Reading s f o a₀ keys₀ top keys′ v m a (told-value .key)
+    reading = passing-value s f o (w .inside) fw a₀ keys₀ top (w .small) (w .big) keys from n a p v m keys′ told-value
+
+    pub pass-value : Room s v keys′ m
+    pass-value = record { within = reading .held .within; small = w .small; room = reading .held .room; big = omega (arith, reading .held .long, w .big) }
+
+    module _ (keys″ : List ℕ) (len : length keys″ ≡ length keys′) (lower : take m keys″ ≡ take m keys′) where
+      pub pass-go : {next : ℕ} {b : A} → f a (told-value .key) v ≡ go next b → Passing s f o a₀ keys₀ top keys″ next m b
+      pass-go {next} {b} q = passing-go s f o (w .inside) fw a₀ keys₀ top (w .small) (w .big) keys′ v m a (told-value .key) reading keys″ len lower next b q
+
+      pub pass-halt : {number place : ℕ} {b : A} → f a (told-value .key) v ≡ halt number place b → Ended s f o a₀ keys₀ top keys″ m (halt number place b)
+      pass-halt {number} {place} {b} q =
+          passing-halt s f o (w .inside) fw a₀ keys₀ top (w .small) (w .big) keys′ v m a (told-value .key) reading keys″ len lower number place b q
+
+    pub pass-less : {next : ℕ} {b : A} → f a (told-value .key) v ≡ go next b → length s - next < length s - from
+    pass-less {next} {b} q =
+        let i : (v < next) × (next ≤ length s) = subst (StepIn {A = A} v (length s)) q (fw a (told-value .key) v (reading .held .within)) in
+        let j : NextIn from (length s) (value v (told-value .key)) = subst (NextIn from (length s)) (told-value .is) (next-between s o from (w .inside)) in
+        omega arith
+
+  module _ {keys : List ℕ} {m : ℕ} {r : Step A} (d : Ended s f o a₀ keys₀ top keys m r) where
+    pub pass-settles : ((length s ≤ 1048576) × (top ≤ m) × (m ≤ length keys)) × (Rising (part keys top m) × Each (Place s) (part keys top m))
+    pass-settles = settle-ready s keys₀ top keys (length s) m (d .held) (w .small) (w .big)

@@ -4,6 +4,7 @@ pub mod Repeated
 pub mod Reading
 pub mod Skipped
 pub mod Kinds
+pub mod Names
 pub mod Order
 pub mod Sorting
 pub mod Private

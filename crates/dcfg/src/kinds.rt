@@ -111,3 +111,33 @@ pub fn an_id(text: &[u8], at: usize, keys: &mut [u32], top: usize) -> Got
         Got::Not(_, _) => got,
     }
 }
+
+// An array of integers, of which nothing is kept.
+pub fn integers(text: &[u8], at: usize, keys: &mut [u32], top: usize) -> Passed
+    requires { ⌜ Room (now text) at (now keys) top ⌝ }
+    ensures { λ r. ⌜ (stepOf r ≡ spec.integers (now (text .entry)) at) × (take top (now (keys .exit)) ≡ take top (now (keys .entry))) ⌝ }
+{
+    if byte(text, at) != b'[' {
+        return wrong(text, at, keys, top);
+    }
+    let mut from = at;
+    let mut n = top;
+    loop {
+        match member(text, at, from, keys, n) {
+            Entry::Over(out, _) => {
+                return told(out);
+            }
+            Entry::Value(value, m) => {
+                n = m;
+                match an_integer(text, value, keys, n) {
+                    Got::Is(_, next) => {
+                        from = next;
+                    }
+                    Got::Not(why, place) => {
+                        return Passed::Refused(why, place);
+                    }
+                }
+            }
+        }
+    }
+}

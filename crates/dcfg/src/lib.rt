@@ -4,6 +4,7 @@ mod heap;
 mod items;
 mod keys;
 mod kinds;
+mod names;
 mod passed;
 mod repeats;
 mod skip;

@@ -8,7 +8,9 @@ use lib.ListN.{length}
 use Rattle.json.specs.declared.Read.{Read}
 use Rattle.dcfg.specs.Entries.{opens}
 use Rattle.dcfg.specs.Reading.{stop}
-use Rattle.dcfg.proofs.Skipping.{Skipping, Opened, opened-by, skipped-plain, skipped-deep, skip-start, skip-member, skip-over, skip-value, skip-next, skip-less, skip-halt, skip-settles, skip-ends}
+use Rattle.dcfg.specs.Private.{stepOf}
+use Rattle.dcfg.proofs.Passing.{pass-start, pass-member, pass-over, pass-value, pass-go, pass-less, pass-halt, pass-settles}
+use Rattle.dcfg.proofs.Skipping.{deeper, deeper-forward, Skipping, Opened, opened-by, skipped-plain, skipped-deep, skip-ends}
 use Prim.Native.Nat.{ℕ, _-_, _<_}
 use borrow.Fn.Kinds.{In}
 use borrow.Fn.PlainCycle.{Measures, is, falls, and}
@@ -44,9 +46,9 @@ skip-μ-loop text at left keys₀ top from₀ n₀ keys from n = length text - f
 
 -- What is known behind the tests.
 opened : (t : ℕ) (c : skip-lts.Else2 (claims t) (skip-at t) skip.Post skip-Inv-loop skip-μ-loop)
-    → Opened (c .before .before .before .before .before .before .args .text .now) (c .before .before .before .before .before .before .args .left) (c .before .before .before .before .before .before .args .at) (c .before .before .before .before .before .before .args .keys .now) (c .before .before .before .before .before .before .args .top)
+    → Opened (c .before .before .before .before .before .before .args .text .now) (c .before .before .before .before .before .before .args .left) (c .before .before .before .before .before .before .args .at) (c .before .before .before .before .before .before .args .keys .now)
 opened t c = let s = c .before .before .before .before .before .before in
-    opened-by (s .args .text .now) (s .args .left) (s .args .at) (s .args .keys .now) (s .args .top) (c .before .before .before .byte .ensures) (c .before .before .opens .ensures) (c .before .if1 .left) (c .if2 .left) (s .pre .1 .small) (s .pre .1 .big)
+    opened-by (s .args .text .now) (s .args .left) (s .args .at) (s .args .keys .now) (c .before .before .before .byte .ensures) (c .before .before .opens .ensures) (c .before .if1 .left) (c .if2 .left) (s .pre .1 .small) (s .pre .1 .big)
 
 skip-byte-requires : (t : ℕ) → skip-lts.Need-byte-requires (claims t) (skip-at t) skip.Post skip-Inv-loop skip-μ-loop
 skip-byte-requires t c κs = search needs
@@ -68,11 +70,11 @@ skip-returns-2 t c = (skipped-deep _ _ _ (ap opens (sym (c .before .before .befo
 
 skip-loop-holds : (t : ℕ) → skip-lts.Need-loop-holds (claims t) (skip-at t) skip.Post skip-Inv-loop skip-μ-loop
 skip-loop-holds t c = let o = opened t c in
-    skip-start o (c .before .before .before .before .before .before .pre .1 .room)
+    pass-start (deeper _ _) (deeper-forward _ _) (o .opening) (c .before .before .before .before .before .before .pre .1 .room)
 
 skip-member-requires : (t : ℕ) → skip-lts.Need-member-requires (claims t) (skip-at t) skip.Post skip-Inv-loop skip-μ-loop
 skip-member-requires t c κs = let o = opened t (c .before .before) in
-    skip-member o (c .before .loop .inv)
+    pass-member (deeper _ _) (deeper-forward _ _) (o .opening) (c .before .loop .inv)
 
 skip-enum-known-out : (t : ℕ) → skip-lts.Need-enum-known-out (claims t) (skip-at t) skip.Post skip-Inv-loop skip-μ-loop
 skip-enum-known-out t c = search needs
@@ -82,14 +84,14 @@ skip-told-requires-2 t c κs = search needs
 
 skip-settle-requires : (t : ℕ) → skip-lts.Need-settle-requires (claims t) (skip-at t) skip.Post skip-Inv-loop skip-μ-loop
 skip-settle-requires t c κs = let o = opened t (c .before .before .before .before .before .before .before .before .before .before) in
-    skip-settles o (skip-over o (c .before .before .before .before .before .before .before .before .before .loop .inv) (c .before .before .before .before .before .before .before .member .ensures .0) (c .before .before .before .before .before .before .before .member .ensures .1) (c .before .before .before .out .given .1))
+    pass-settles (deeper _ _) (deeper-forward _ _) (o .opening) (pass-over (deeper _ _) (deeper-forward _ _) (o .opening) (c .before .before .before .before .before .before .before .before .before .loop .inv) (c .before .before .before .before .before .before .before .member .ensures .0) (c .before .before .before .before .before .before .before .member .ensures .1) (c .before .before .before .out .given .1))
 
 skip-same-length : (t : ℕ) → skip-lts.Need-same-length (claims t) (skip-at t) skip.Post skip-Inv-loop skip-μ-loop
 skip-same-length t c = search needs
 
 skip-returns-3 : (t : ℕ) → skip-lts.Need-returns-3 (claims t) (skip-at t) skip.Post skip-Inv-loop skip-μ-loop
 skip-returns-3 t c = let o = opened t (c .before .before .before .before .before .before .before .before .before .before .before .before .before) in
-    skip-ends o (skip-over o (c .before .before .before .before .before .before .before .before .before .before .before .before .loop .inv) (c .before .before .before .before .before .before .before .before .before .before .member .ensures .0) (c .before .before .before .before .before .before .before .before .before .before .member .ensures .1) (c .before .before .before .before .before .before .out .given .1)) (c .before .before .settle .last .1 .0) (c .before .before .settle .ensures .0) (c .before .before .before .told2 .ensures) (c .before .before .settle .ensures .1)
+    skip-ends o (pass-over (deeper _ _) (deeper-forward _ _) (o .opening) (c .before .before .before .before .before .before .before .before .before .before .before .before .loop .inv) (c .before .before .before .before .before .before .before .before .before .before .member .ensures .0) (c .before .before .before .before .before .before .before .before .before .before .member .ensures .1) (c .before .before .before .before .before .before .out .given .1)) (c .before .before .settle .last .1 .0) (c .before .before .settle .ensures .0) (c .before .before .before .told2 .ensures) (c .before .before .settle .ensures .1)
 
 skip-enum-known-value : (t : ℕ) → skip-lts.Need-enum-known-value (claims t) (skip-at t) skip.Post skip-Inv-loop skip-μ-loop
 skip-enum-known-value t c = search needs
@@ -99,32 +101,32 @@ skip-sub-skip t c = omega (arith, c .before .before .before .before .before .bef
 
 skip-skip-requires : (t : ℕ) → skip-lts.Need-skip-requires (claims t) (skip-at t) skip.Post skip-Inv-loop skip-μ-loop
 skip-skip-requires t c κs = let o = opened t (c .before .before .before .before .before .before .before .before .before) in
-    (omega (arith, c .before .before .before .before .before .before .before .before .before .before .before .before .before .before .before .pre .0, o .some), skip-value o (c .before .before .before .before .before .before .before .before .loop .inv) (c .before .before .before .before .before .before .member .ensures .0) (c .before .before .before .before .before .before .member .ensures .1) (c .before .before .value .given .1))
+    (omega (arith, c .before .before .before .before .before .before .before .before .before .before .before .before .before .before .before .pre .0, o .some), pass-value (deeper _ _) (deeper-forward _ _) (o .opening) (c .before .before .before .before .before .before .before .before .loop .inv) (c .before .before .before .before .before .before .member .ensures .0) (c .before .before .before .before .before .before .member .ensures .1) (c .before .before .value .given .1))
 
 skip-enum-known-out-2 : (t : ℕ) → skip-lts.Need-enum-known-out-2 (claims t) (skip-at t) skip.Post skip-Inv-loop skip-μ-loop
 skip-enum-known-out-2 t c = search needs
 
 skip-loop-less : (t : ℕ) → skip-lts.Need-loop-less (claims t) (skip-at t) skip.Post skip-Inv-loop skip-μ-loop
 skip-loop-less t c = let o = opened t (c .before .before .before .before .before .before .before .before .before .before .before .before .before .before .before) in
-    skip-less o (c .before .before .before .before .before .before .before .before .before .before .before .before .before .before .loop .inv) (c .before .before .before .before .before .before .before .before .before .before .before .before .member .ensures .0) (c .before .before .before .before .before .before .before .before .before .before .before .before .member .ensures .1) (c .before .before .before .before .before .before .before .before .value .given .1) (c .before .before .before .before .before .skip .ensures .0) (c .before .before .before .before .before .skip .last .1 .1 .1 .0) (c .before .before .before .before .before .skip .kept .1 .1 .1 .0) (c .before .before .before .before .before .skip .ensures .1) (c .before .out2 .given .1)
+    pass-less (deeper _ _) (deeper-forward _ _) (o .opening) (c .before .before .before .before .before .before .before .before .before .before .before .before .before .before .loop .inv) (c .before .before .before .before .before .before .before .before .before .before .before .before .member .ensures .0) (c .before .before .before .before .before .before .before .before .before .before .before .before .member .ensures .1) (c .before .before .before .before .before .before .before .before .value .given .1) (sym (c .before .before .before .before .before .skip .ensures .0) ∙ ap stepOf (c .before .out2 .given .1))
 
 skip-loop-again : (t : ℕ) → skip-lts.Need-loop-again (claims t) (skip-at t) skip.Post skip-Inv-loop skip-μ-loop
 skip-loop-again t c = let o = opened t (c .before .before .before .before .before .before .before .before .before .before .before .before .before .before .before) in
-    skip-next o (c .before .before .before .before .before .before .before .before .before .before .before .before .before .before .loop .inv) (c .before .before .before .before .before .before .before .before .before .before .before .before .member .ensures .0) (c .before .before .before .before .before .before .before .before .before .before .before .before .member .ensures .1) (c .before .before .before .before .before .before .before .before .value .given .1) (c .before .before .before .before .before .skip .ensures .0) (c .before .before .before .before .before .skip .last .1 .1 .1 .0) (c .before .before .before .before .before .skip .kept .1 .1 .1 .0) (c .before .before .before .before .before .skip .ensures .1) (c .before .out2 .given .1)
+    pass-go (deeper _ _) (deeper-forward _ _) (o .opening) (c .before .before .before .before .before .before .before .before .before .before .before .before .before .before .loop .inv) (c .before .before .before .before .before .before .before .before .before .before .before .before .member .ensures .0) (c .before .before .before .before .before .before .before .before .before .before .before .before .member .ensures .1) (c .before .before .before .before .before .before .before .before .value .given .1) (c .before .before .before .before .before .skip .last .1 .1 .1 .0) (c .before .before .before .before .before .skip .kept .1 .1 .1 .0) (c .before .before .before .before .before .skip .ensures .1) (sym (c .before .before .before .before .before .skip .ensures .0) ∙ ap stepOf (c .before .out2 .given .1))
 
 skip-enum-told : (t : ℕ) → skip-lts.Need-enum-told (claims t) (skip-at t) skip.Post skip-Inv-loop skip-μ-loop
 skip-enum-told t c = search needs
 
 skip-settle-requires-2 : (t : ℕ) → skip-lts.Need-settle-requires-2 (claims t) (skip-at t) skip.Post skip-Inv-loop skip-μ-loop
 skip-settle-requires-2 t c κs = let o = opened t (c .before .before .before .before .before .before .before .before .before .before .before .before .before .before .before) in
-    skip-settles o (skip-halt o (c .before .before .before .before .before .before .before .before .before .before .before .before .before .before .loop .inv) (c .before .before .before .before .before .before .before .before .before .before .before .before .member .ensures .0) (c .before .before .before .before .before .before .before .before .before .before .before .before .member .ensures .1) (c .before .before .before .before .before .before .before .before .value .given .1) (c .before .before .before .before .before .skip .ensures .0) (c .before .before .before .before .before .skip .last .1 .1 .1 .0) (c .before .before .before .before .before .skip .kept .1 .1 .1 .0) (c .before .before .before .before .before .skip .ensures .1) (c .before .enum-told .given .1))
+    pass-settles (deeper _ _) (deeper-forward _ _) (o .opening) (pass-halt (deeper _ _) (deeper-forward _ _) (o .opening) (c .before .before .before .before .before .before .before .before .before .before .before .before .before .before .loop .inv) (c .before .before .before .before .before .before .before .before .before .before .before .before .member .ensures .0) (c .before .before .before .before .before .before .before .before .before .before .before .before .member .ensures .1) (c .before .before .before .before .before .before .before .before .value .given .1) (c .before .before .before .before .before .skip .last .1 .1 .1 .0) (c .before .before .before .before .before .skip .kept .1 .1 .1 .0) (c .before .before .before .before .before .skip .ensures .1) (sym (c .before .before .before .before .before .skip .ensures .0) ∙ ap stepOf (c .before .enum-told .given .1)))
 
 skip-same-length-2 : (t : ℕ) → skip-lts.Need-same-length-2 (claims t) (skip-at t) skip.Post skip-Inv-loop skip-μ-loop
 skip-same-length-2 t c = search needs
 
 skip-returns-4 : (t : ℕ) → skip-lts.Need-returns-4 (claims t) (skip-at t) skip.Post skip-Inv-loop skip-μ-loop
 skip-returns-4 t c = let o = opened t (c .before .before .before .before .before .before .before .before .before .before .before .before .before .before .before .before .before .before) in
-    skip-ends o (skip-halt o (c .before .before .before .before .before .before .before .before .before .before .before .before .before .before .before .before .before .loop .inv) (c .before .before .before .before .before .before .before .before .before .before .before .before .before .before .before .member .ensures .0) (c .before .before .before .before .before .before .before .before .before .before .before .before .before .before .before .member .ensures .1) (c .before .before .before .before .before .before .before .before .before .before .before .value .given .1) (c .before .before .before .before .before .before .before .before .skip .ensures .0) (c .before .before .before .before .before .before .before .before .skip .last .1 .1 .1 .0) (c .before .before .before .before .before .before .before .before .skip .kept .1 .1 .1 .0) (c .before .before .before .before .before .before .before .before .skip .ensures .1) (c .before .before .before .before .enum-told .given .1)) (c .before .before .settle2 .last .1 .0) (c .before .before .settle2 .ensures .0) refl (c .before .before .settle2 .ensures .1)
+    skip-ends o (pass-halt (deeper _ _) (deeper-forward _ _) (o .opening) (c .before .before .before .before .before .before .before .before .before .before .before .before .before .before .before .before .before .loop .inv) (c .before .before .before .before .before .before .before .before .before .before .before .before .before .before .before .member .ensures .0) (c .before .before .before .before .before .before .before .before .before .before .before .before .before .before .before .member .ensures .1) (c .before .before .before .before .before .before .before .before .before .before .before .value .given .1) (c .before .before .before .before .before .before .before .before .skip .last .1 .1 .1 .0) (c .before .before .before .before .before .before .before .before .skip .kept .1 .1 .1 .0) (c .before .before .before .before .before .before .before .before .skip .ensures .1) (sym (c .before .before .before .before .before .before .before .before .skip .ensures .0) ∙ ap stepOf (c .before .before .before .before .enum-told .given .1))) (c .before .before .settle2 .last .1 .0) (c .before .before .settle2 .ensures .0) (ap stepOf (c .before .before .before .before .enum-told .given .1)) (c .before .before .settle2 .ensures .1)
 
 pub +skip-spec : {M : Type 1} → statement M
 +skip-spec = close μ-skip λ t. skip-lts.spec (claims t)
