@@ -5,6 +5,10 @@ pub mod Reading
 pub mod Skipped
 pub mod Kinds
 pub mod Names
+pub mod Document
+pub mod Tables
+pub mod Processes
+pub mod Dcfg
 pub mod Order
 pub mod Sorting
 pub mod Private
