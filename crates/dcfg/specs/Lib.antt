@@ -13,3 +13,4 @@ pub mod Order
 pub mod Sorting
 pub mod Private
 pub mod Examples
+pub mod Samples
