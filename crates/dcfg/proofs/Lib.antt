@@ -8,6 +8,8 @@ pub mod Skipping
 pub mod Judging
 pub mod Counting
 pub mod Naming
+pub mod Walking
+pub mod Heading
 pub mod Orders
 pub mod Ordering
 pub mod Swapping

@@ -1,5 +1,5 @@
 -- A name compared letter by letter with the characters of a string. Assumes nothing.
-use Prim.Native.Nat.{ℕ, suc, _+_, _≤_, _<_}
+use Prim.Native.Nat.{ℕ, zero, suc, _+_, _≤_, _<_}
 use mathlib.Core.Path.{_≡_, refl, sym, ap, _∙_}
 use mathlib.Core.Bool.{Bool, true, false}
 use mathlib.Core.List.{List, [], _∷_}
@@ -14,6 +14,7 @@ use Rattle.json.specs.declared.chars.Char.the-variants.{One, End, Bad}
 use Rattle.json.specs.Chars.{charAt, charsAt}
 use Rattle.json.proofs.Steps.{chars-one, chars-end, chars-bad}
 use Rattle.dcfg.specs.Repeated.{same}
+use Rattle.dcfg.specs.Names.{numberIn, columnsOf}
 
 -- What is left of both is alike where the whole is.
 pub record Left (s : List ℕ) (at : ℕ) (name : List ℕ) (p i : ℕ) : Type 0 where
@@ -64,3 +65,23 @@ module _ {s : List ℕ} {at : ℕ} {name : List ℕ} {p i : ℕ} (h : Left s at 
         go-on : (t : Bool) → eqb i (length name) ≡ t → t ≡ same name (charsAt s at)
         go-on true q = sym (same-none (drop i name) (at-end (eqb-true i (length name) q))) ∙ ended
         go-on false q = sym (same-some (drop i name) (getD name i 0) (drop (i + 1) name) (more (eqb-false i (length name) q))) ∙ ended
+
+-- The number of a name, test by test.
+
+pub number-here : (k : ℕ) (known : List ℕ) (names : List (List ℕ)) (name : List ℕ) → same known name ≡ true → k ≡ numberIn k (known ∷ names) name
+unfolding numberIn
+number-here k known names name e = rw (e, numberIn)
+
+pub number-on : (k : ℕ) (known : List ℕ) (names : List (List ℕ)) (name : List ℕ) → same known name ≡ false → numberIn (k + 1) names name ≡ numberIn k (known ∷ names) name
+unfolding numberIn
+number-on k known names name e = rw (e, numberIn)
+
+pub number-none : (k : ℕ) (name : List ℕ) → 5 ≡ numberIn k [] name
+unfolding numberIn
+number-none k name = refl
+
+pub other-columns : (table : ℕ) → (table ≡ 0 → ⊥) → (table ≡ 1 → ⊥) → (table ≡ 2 → ⊥) → columnsOf table ≡ columnsOf 3
+other-columns zero a b c = absurd (a refl)
+other-columns (suc zero) a b c = absurd (b refl)
+other-columns (suc (suc zero)) a b c = absurd (c refl)
+other-columns (suc (suc (suc n))) a b c = refl

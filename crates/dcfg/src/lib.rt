@@ -1,5 +1,6 @@
 // A DCFG: its edges and threads, in reading order.
 mod entries;
+mod header;
 mod heap;
 mod items;
 mod keys;

@@ -5,7 +5,7 @@ ghost use Prim.Native.Nat.{_<_};
 ghost use lib.ListN.{length};
 ghost use Rattle.json.specs.Chars.{nameAt, charsAt};
 ghost use Rattle.dcfg.specs.Repeated.{same};
-ghost use Rattle.dcfg.specs.Names as spec;
+ghost use Rattle.dcfg.specs.Names.{numberIn, topKeys, processKeys, columnsOf};
 use json::chars::Char;
 use json::chars::char_at;
 
@@ -38,4 +38,100 @@ fn is(text: &[u8], at: usize, name: &[u8]) -> bool
             }
         }
     }
+}
+
+// The number of the name among two, three or five.
+fn of_two(text: &[u8], at: usize, a: &[u8], b: &[u8]) -> usize
+    ensures { λ r. ⌜ r ≡ numberIn 0 (now (a .entry) ∷ now (b .entry) ∷ []) (charsAt (now (text .entry)) at) ⌝ }
+{
+    if is(text, at, a) {
+        return 0;
+    }
+    if is(text, at, b) { 1 } else { UNKNOWN }
+}
+
+fn of_three(text: &[u8], at: usize, a: &[u8], b: &[u8], c: &[u8]) -> usize
+    ensures { λ r. ⌜ r ≡ numberIn 0 (now (a .entry) ∷ now (b .entry) ∷ now (c .entry) ∷ []) (charsAt (now (text .entry)) at) ⌝ }
+{
+    if is(text, at, a) {
+        return 0;
+    }
+    if is(text, at, b) {
+        return 1;
+    }
+    if is(text, at, c) { 2 } else { UNKNOWN }
+}
+
+fn of_five(text: &[u8], at: usize, a: &[u8], b: &[u8], c: &[u8], d: &[u8], e: &[u8]) -> usize
+    ensures { λ r. ⌜ r ≡ numberIn 0 (now (a .entry) ∷ now (b .entry) ∷ now (c .entry) ∷ now (d .entry) ∷ now (e .entry) ∷ []) (charsAt (now (text .entry)) at) ⌝ }
+{
+    if is(text, at, a) {
+        return 0;
+    }
+    if is(text, at, b) {
+        return 1;
+    }
+    if is(text, at, c) {
+        return 2;
+    }
+    if is(text, at, d) {
+        return 3;
+    }
+    if is(text, at, e) { 4 } else { UNKNOWN }
+}
+
+// Of the string whose opening quotation mark stands at `at`: the number of the key, or of the column by the table's number.
+pub fn top_key(text: &[u8], at: usize) -> usize
+    requires { ⌜ at < length (now text) ⌝ }
+    ensures { λ r. ⌜ r ≡ numberIn 0 topKeys (nameAt (now (text .entry)) at) ⌝ }
+{
+    let name = at + 1;
+    of_five(
+        text,
+        name,
+        b"MAJOR_VERSION",
+        b"MINOR_VERSION",
+        b"EDGE_TYPES",
+        b"SPECIAL_NODES",
+        b"PROCESSES",
+    )
+}
+
+pub fn process_key(text: &[u8], at: usize) -> usize
+    requires { ⌜ at < length (now text) ⌝ }
+    ensures { λ r. ⌜ r ≡ numberIn 0 processKeys (nameAt (now (text .entry)) at) ⌝ }
+{
+    let name = at + 1;
+    of_three(
+        text,
+        name,
+        b"INSTR_COUNT",
+        b"INSTR_COUNT_PER_THREAD",
+        b"EDGES",
+    )
+}
+
+pub fn column(text: &[u8], at: usize, table: usize) -> usize
+    requires { ⌜ at < length (now text) ⌝ }
+    ensures { λ r. ⌜ r ≡ numberIn 0 (columnsOf table) (nameAt (now (text .entry)) at) ⌝ }
+{
+    let name = at + 1;
+    if table == 0 {
+        return of_two(text, name, b"EDGE_TYPE_ID", b"EDGE_TYPE");
+    }
+    if table == 1 {
+        return of_two(text, name, b"NODE_ID", b"NODE_NAME");
+    }
+    if table == 2 {
+        return of_two(text, name, b"PROCESS_ID", b"PROCESS_DATA");
+    }
+    of_five(
+        text,
+        name,
+        b"EDGE_ID",
+        b"SOURCE_NODE_ID",
+        b"TARGET_NODE_ID",
+        b"EDGE_TYPE_ID",
+        b"COUNT_PER_THREAD",
+    )
 }
