@@ -258,7 +258,7 @@ module _ (t : List ℕ) where
         go : (b : Bool) → matches e bits (rowAt t p) ≡ b → length (matching e bits (map (rowAt t) l)) ≤ 1 → length (matching e bits (map (rowAt t) (p ∷ l))) ≤ 1
         go true x rest =
             let others : matching e bits (map (rowAt t) l) ≡ [] = matching-empty l
-                (λ k h m. never (clashes (map (rowAt t) (p ∷ l))) c (pair-clashes (p ∷ l) 0 (suc k) (omega arith) (omega arith) (match-clash p (getD l k 0) x m))) in
+            (λ k h m. never (clashes (map (rowAt t) (p ∷ l))) c (pair-clashes (p ∷ l) 0 (suc k) (omega arith) (omega arith) (match-clash p (getD l k 0) x m))) in
             rw (x, matching) (omega (arith, ap length others))
         go false x rest = rw (x, matching) rest
 
