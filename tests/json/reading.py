@@ -89,11 +89,11 @@ class Reading:
     # Objects and tables.
 
     def members(self, value, names):
-        """The values of these keys, where all are there; those of others are skipped."""
+        """The values of these keys, of a repeated one the first; those of others are skipped."""
         if not isinstance(value, Members):
             self.wrong(value)
             return None
-        found = dict(value)
+        found = dict(reversed(value))
         for key, inner in value:
             if key not in names:
                 self.skip(inner)
@@ -117,7 +117,7 @@ class Reading:
         cells = {}
         for index, cell in enumerate(self.array(value)):
             if index < len(header) and header[index] in names:
-                cells[header[index]] = cell
+                cells.setdefault(header[index], cell)
             else:
                 self.skip(cell)
         if not set(names) <= set(cells):
