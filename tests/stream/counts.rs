@@ -21,9 +21,13 @@ const ENDS: [&str; 8] = [
     "fail 4 by length, at the end",
 ];
 
+/// Those around 2^64 - 1 bytes long.
+const FAR: [&str; 4] = ["20", "refused before", "cut short", "accepted"];
+
 pub struct Counts {
     /// Logs by kind and order; the last row is for the samples.
     pub kinds: Table,
+    far: Table,
     ways: Table,
     ends: Table,
     told: Table,
@@ -36,6 +40,7 @@ impl Counts {
         let told = [("reads", entries::FEED), ("ends", entries::END)];
         Counts {
             kinds: Table::kinds("samples"),
+            far: Table::grid("logs of about 2^64 bytes", &ORDERS, FAR),
             ways: Table::grid("ways to cut", &ORDERS, ways.into_iter().chain(cut)),
             ends: Table::grid("logs by their ends", &ORDERS, ENDS),
             told: Table::refusals_by_order("refusals that end a stream", told),
@@ -54,6 +59,17 @@ impl Counts {
         self.ended(order, end, told);
     }
 
+    /// A log around 2^64 - 1 bytes long.
+    pub fn far(&mut self, order: Order, told: &Told) {
+        let row = match (told.answer, told.at_end) {
+            (Answer::Refused { number: 20, .. }, _) => 0,
+            (Answer::Refused { .. }, false) => 1,
+            (Answer::Refused { .. }, true) => 2,
+            (Answer::Report { .. }, _) => 3,
+        };
+        self.far.count(row, order as usize);
+    }
+
     fn ended(&mut self, order: Order, end: End, told: &Told) {
         let row = match end {
             End::Whole(Answer::Report { .. }) => 0,
@@ -67,7 +83,14 @@ impl Counts {
         self.told.count(row, number as usize);
     }
 
-    pub fn tables<'a>(&'a self, calls: &'a Table) -> [&'a Table; 5] {
-        [&self.kinds, &self.ways, &self.ends, &self.told, calls]
+    pub fn tables<'a>(&'a self, calls: &'a Table) -> [&'a Table; 6] {
+        [
+            &self.kinds,
+            &self.ways,
+            &self.ends,
+            &self.told,
+            &self.far,
+            calls,
+        ]
     }
 }

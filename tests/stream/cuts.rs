@@ -31,7 +31,7 @@ impl Way {
             0 => Way::One,
             1 if length <= bytes => Way::Bytes,
             2..=4 if length <= small => Way::Small,
-            2..=4 if length > TRANSFER && length <= transfers => Way::Transfers,
+            1..=6 if length > TRANSFER && length <= transfers => Way::Transfers,
             _ => Way::Few,
         }
     }

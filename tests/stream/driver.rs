@@ -12,6 +12,8 @@ use second::stream::Answer;
 const SHORT: u64 = 12;
 /// Calls behind the end or a refusal.
 const AFTER: u64 = 2;
+/// A read of these, which start no log.
+const BYTES: [u8; 40] = [0xFF; 40];
 
 /// What is counted of the calls.
 const CALLS: [&str; 6] = [
@@ -24,9 +26,11 @@ const CALLS: [&str; 6] = [
 ];
 
 #[derive(Debug, Clone, Copy)]
-enum Call<'a> {
+pub enum Call<'a> {
     Feed(&'a [u8]),
     End,
+    /// No call: so many bytes that are only counted.
+    Pass(u64),
 }
 
 /// How a stream ended.
@@ -60,20 +64,18 @@ impl Driver {
 
     /// Feeds both these reads and tells them the end, up to a refusal, and then
     /// goes on for some calls.
-    pub fn drive(
+    pub fn drive<'a>(
         &mut self,
         random: &mut Random,
         mut streams: Streams,
-        reads: &[&[u8]],
+        calls: impl IntoIterator<Item = Call<'a>>,
     ) -> Result<Told, String> {
         self.soil();
-        let feeds = reads.iter().map(|read| Call::Feed(read));
-        for (index, call) in feeds.chain([Call::End]).enumerate() {
-            let answer = self.call(random, &mut streams, call);
-            let named = |text| format!("call {index}, {call:?}: {text}");
-            if let Answer::Told(answer) = answer.map_err(named)? {
-                let read = reads.last().copied().unwrap_or_default();
-                self.go_on(random, &mut streams, read, answer)?;
+        for (index, call) in calls.into_iter().chain([Call::End]).enumerate() {
+            let named = |text| format!("call {index}, {call:.60?}: {text}");
+            let answer = self.call(random, &mut streams, call).map_err(named)?;
+            if let Answer::Told(answer) = answer {
+                self.go_on(random, &mut streams, answer)?;
                 let at_end = matches!(call, Call::End);
                 return Ok(Told { answer, at_end });
             }
@@ -88,6 +90,10 @@ impl Driver {
         streams: &mut Streams,
         call: Call,
     ) -> Result<Answer, String> {
+        if let Call::Pass(bytes) = call {
+            streams.iter_mut().for_each(|stream| stream.pass(bytes));
+            return Ok(Answer::More);
+        }
         if random.once_in(SHORT) {
             let length = replaying::length(random, true);
             let answer = self.same(streams, call, length)?;
@@ -99,7 +105,7 @@ impl Driver {
         let row = match call {
             Call::Feed([]) => 1,
             Call::Feed(_) => 0,
-            Call::End => 2,
+            _ => 2,
         };
         self.calls.count(row, 0);
         self.same(streams, call, replaying::length(random, false))
@@ -111,7 +117,6 @@ impl Driver {
         &mut self,
         random: &mut Random,
         streams: &mut Streams,
-        read: &[u8],
         answer: replay::Answer,
     ) -> Result<(), String> {
         self.soil();
@@ -121,7 +126,7 @@ impl Driver {
             let call = match random.below(3) {
                 0 => Call::End,
                 1 => Call::Feed(&[]),
-                _ => Call::Feed(read),
+                _ => Call::Feed(&BYTES),
             };
             let again = self.same(streams, call, length)?;
             if again != Answer::Told(answer) || self.lent[0] != self.dirt {
@@ -144,7 +149,7 @@ impl Driver {
             let table = &mut self.lent[index][..length];
             match call {
                 Call::Feed(read) => streams[index].feed(read, table),
-                Call::End => streams[index].end(table),
+                _ => streams[index].end(table),
             }
         });
         if one != other {

@@ -1,7 +1,8 @@
 //! Feeds logs in reads to two streams, and compares after every call the answers
 //! and the whole tables: generated logs and the samples, of both byte orders, cut
-//! in several ways, and each sample cut in two at every byte. One is the second
-//! program's stream, the other what its replay says of the whole log.
+//! in several ways, each sample cut in two at every byte, and logs about 2^64 bytes
+//! long. One is the second program's stream, the other what its replay says of the
+//! whole log.
 //!
 //! `stream [LOGS] [--seed SEED]`
 
@@ -10,13 +11,15 @@
 mod counts;
 mod cuts;
 mod driver;
+mod far;
 mod streaming;
 mod times;
 mod whole;
 
 use counts::Counts;
 use cuts::Way;
-use driver::Driver;
+use driver::{Call, Driver};
+use far::Far;
 use harness::suite::{self, Words};
 use logs::inputs::{self, Input, Kind};
 use logs::random::Random;
@@ -29,6 +32,8 @@ use whole::Whole;
 
 /// Logs where no number is given.
 const LOGS: u64 = 60_000;
+/// Of one log in this many another is made that is about 2^64 bytes long.
+const FAR: u64 = 4;
 
 /// The two that are compared, at the start of a log of this order.
 fn both<'a>(times: &'a Times, order: Order) -> [Box<dyn Streaming + 'a>; 2] {
@@ -53,7 +58,8 @@ impl Run {
         let way = Way::of(random, log.len());
         let reads = way.reads(random, log);
         let streams = both(&times, order);
-        let told = self.driver.drive(random, streams, &reads);
+        let calls = reads.iter().map(|read| Call::Feed(read));
+        let told = self.driver.drive(random, streams, calls);
         let told = told.map_err(|text| {
             let text = format!("{way:?}, {} reads: {text}", reads.len());
             suite::difference(name, seed, log, &text)
@@ -62,13 +68,31 @@ impl Run {
         Ok(())
     }
 
+    /// Compares one about 2^64 bytes long that is made of this log, where one can
+    /// be.
+    fn far(&mut self, input: &Input) -> Result<(), String> {
+        let random = &mut Random::new(!input.seed);
+        let Some(far) = Far::of(random, input) else {
+            return Ok(());
+        };
+        let calls = far.calls(random);
+        let streams = both(&far.times, far.order);
+        let told = self.driver.drive(random, streams, calls);
+        let told = told.map_err(|text| {
+            let name = format!("{}, far", input.name());
+            suite::difference(&name, input.seed, &input.log(), &text)
+        })?;
+        self.counts.far(far.order, &told);
+        Ok(())
+    }
+
     /// Compares one sample in this order, cut in two at every byte.
     fn every_cut(&mut self, log: &[u8], order: Order, name: &str) -> Result<(), String> {
         let times = Times::of(log, order);
         for cut in 0..=log.len() {
             let random = &mut Random::new(cut as u64);
-            let reads = [&log[..cut], &log[cut..]];
-            let told = self.driver.drive(random, both(&times, order), &reads);
+            let calls = [&log[..cut], &log[cut..]].map(Call::Feed);
+            let told = self.driver.drive(random, both(&times, order), calls);
             let told = told.map_err(|text| {
                 let text = format!("cut at {cut}: {text}");
                 suite::difference(name, 0, log, &text)
@@ -90,6 +114,10 @@ fn run(words: Words) -> Result<String, String> {
         let (kind, order) = (input.kind, input.order);
         run.compare(&input.log(), order, input.seed, &input.name())?;
         run.counts.kinds.count(kind.index(), order as usize);
+        // Two neighbours are of both orders.
+        if (index / 2).is_multiple_of(FAR) && !kind.is_huge() {
+            run.far(&input)?;
+        }
     }
     // In the order that is theirs at every cut, and in the other.
     for sample in inputs::samples()? {

@@ -6,6 +6,8 @@ use second::stream::{Answer, Stream};
 pub trait Streaming {
     fn feed(&mut self, read: &[u8], table: &mut [u64]) -> Answer;
     fn end(&mut self, table: &mut [u64]) -> Answer;
+    /// So many bytes of a skipped rest, of which more are to come.
+    fn pass(&mut self, bytes: u64);
 }
 
 impl Streaming for Stream {
@@ -15,5 +17,9 @@ impl Streaming for Stream {
 
     fn end(&mut self, table: &mut [u64]) -> Answer {
         Stream::end(self, table)
+    }
+
+    fn pass(&mut self, bytes: u64) {
+        Stream::pass(self, bytes);
     }
 }

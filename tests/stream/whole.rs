@@ -7,7 +7,10 @@ use second::stream::Answer;
 
 pub struct Whole<'a> {
     times: &'a Times,
+    /// The bytes of the log that were taken.
     taken: u64,
+    /// The bytes that were passed, which the log doesn't hold.
+    passed: u64,
     /// The records that are judged, and their table.
     records: usize,
     table: Vec<u64>,
@@ -19,6 +22,7 @@ impl<'a> Whole<'a> {
         Whole {
             times,
             taken: 0,
+            passed: 0,
             records: 0,
             table: vec![0; TABLE],
             ended: None,
@@ -31,11 +35,10 @@ impl<'a> Whole<'a> {
             return Answer::Told(answer);
         }
         if table.len() < TABLE {
-            return Answer::Told(refused(14));
+            return Answer::Told(refused(14, 0));
         }
-        self.taken += taken.unwrap_or(0) as u64;
         self.ended = match taken {
-            Some(_) => self.times.fault(self.taken),
+            Some(bytes) => self.take(bytes as u64),
             None => Some(self.at_end()),
         };
         let records = self.times.judged(self.taken);
@@ -49,11 +52,28 @@ impl<'a> Whole<'a> {
         self.ended.map_or(Answer::More, Answer::Told)
     }
 
+    /// The refusal that comes with a read of so many bytes.
+    fn take(&mut self, bytes: u64) -> Option<replay::Answer> {
+        let offset = u128::from(self.taken) + u128::from(self.passed);
+        if offset + u128::from(bytes) > u128::from(u64::MAX) {
+            return Some(refused(20, offset as u64));
+        }
+        self.taken += bytes;
+        match self.times.fault(self.taken)? {
+            // What was passed lies before all that is judged later.
+            replay::Answer::Refused {
+                number: number @ 5..,
+                place,
+            } => Some(refused(number, place + self.passed)),
+            answer => Some(answer),
+        }
+    }
+
     fn at_end(&self) -> replay::Answer {
         match self.times.end() {
             End::Whole(answer) => answer,
-            End::Header(number) => refused(number),
-            End::Length => refused(4),
+            End::Header(number) => refused(number, 0),
+            End::Length => refused(4, 0),
         }
     }
 }
@@ -66,8 +86,12 @@ impl Streaming for Whole<'_> {
     fn end(&mut self, table: &mut [u64]) -> Answer {
         self.call(None, table)
     }
+
+    fn pass(&mut self, bytes: u64) {
+        self.passed += bytes;
+    }
 }
 
-fn refused(number: u8) -> replay::Answer {
-    replay::Answer::Refused { number, place: 0 }
+fn refused(number: u8, place: u64) -> replay::Answer {
+    replay::Answer::Refused { number, place }
 }
