@@ -37,9 +37,12 @@ refused-in : (low high : ℕ) (x : Step (Unit {0})) → StepIn low high (refused
 refused-in low high (go n a) = omega arith
 refused-in low high (halt m p a) = omega arith
 
-pub wrong-in : (s : List ℕ) (i : ℕ) → StepIn i (length s) (wrong s i)
+pub wrong-from : (low : ℕ) (s : List ℕ) (i : ℕ) → StepIn low (length s) (wrong s i)
 unfolding wrong
-wrong-in s i = refused-in i (length s) (skipped 32 s i)
+wrong-from low s i = refused-in low (length s) (skipped 32 s i)
+
+pub wrong-in : (s : List ℕ) (i : ℕ) → StepIn i (length s) (wrong s i)
+wrong-in s i = wrong-from i s i
 
 pub noting-in : {A B : Type 0} (low high : ℕ) (b : B) (x : Step A) → StepIn low high x → StepIn low high (noting b x)
 noting-in low high b (go n a) h = h

@@ -19,7 +19,9 @@ use Rattle.dcfg.specs.declared.passed.Passed.{Passed}
 use Rattle.dcfg.specs.declared.passed.Passed.the-variants.{To, Refused}
 use Rattle.dcfg.specs.declared.kinds.Got.{Got}
 use Rattle.dcfg.specs.declared.kinds.Got.the-variants.{Is, Not}
-use Rattle.dcfg.specs.Reading.{Step, go, halt}
+use Rattle.dcfg.specs.Reading.{Step, go, halt, noted}
+use Rattle.dcfg.specs.Kinds.{noting}
+use Rattle.dcfg.specs.Tables.{headerAt}
 
 -- What the code's answer says.
 abbrev pub stepOf : Passed → Step (Unit {0})
@@ -106,3 +108,8 @@ pub record Answered (at : ℕ → List ℕ) (base top : ℕ) (a : List ℕ) (r :
   pub below : take base b ≡ take base a
   pub above : drop top b ≡ drop top a
   pub swaps : Swaps (top - base) (part a base top) (part b base top)
+
+-- A header: how it ends, and where the known columns stand.
+pub record Headed (s : List ℕ) (table at : ℕ) (out : Passed) (known : List ℕ) : Type 0 where
+  pub ends : stepOf out ≡ noting tt (headerAt s table at)
+  pub columns : known ≡ noted (headerAt s table at) .known

@@ -1,11 +1,8 @@
 // The header of a table: which of its columns are known, and where they stand.
 ghost use mathlib.Core.Path.{_≡_};
-ghost use Prim.Native.Nat.{_≤_};
-ghost use lib.ListN.{length, take};
-ghost use Rattle.dcfg.specs.Reading.{noted};
-ghost use Rattle.dcfg.specs.Kinds.{noting};
+ghost use lib.ListN.{take};
 ghost use Rattle.dcfg.specs.Tables as spec;
-ghost use Rattle.dcfg.specs.Private.{stepOf, Room};
+ghost use Rattle.dcfg.specs.Private.{Room, Headed};
 use crate::entries::Entry;
 use crate::entries::member;
 use crate::kinds::a_string;
@@ -38,4 +35,41 @@ fn found(columns: Columns, k: usize, i: usize) -> Columns
         }
     }
     Columns { known }
+}
+
+pub fn header(text: &[u8], at: usize, table: usize, keys: &mut [u32], top: usize) -> Heading
+    requires { ⌜ Room (now text) at (now keys) top ⌝ }
+    ensures { λ r. ⌜ Headed (now (text .entry)) table at (r .out) (r .columns .known) × (take top (now (keys .exit)) ≡ take top (now (keys .entry))) ⌝ }
+{
+    let mut columns = Columns { known: [0usize; 5] };
+    if byte(text, at) != b'[' {
+        let out = wrong(text, at, keys, top);
+        return Heading { out, columns };
+    }
+    let mut from = at;
+    let mut n = top;
+    loop {
+        match member(text, at, from, keys, n) {
+            Entry::Over(read, _) => {
+                let out = settle(text, keys, top, n, told(read));
+                return Heading { out, columns };
+            }
+            Entry::Value(place, _) => {
+                let cell = a_string(text, place, keys, n);
+                match cell {
+                    Passed::To(next) => {
+                        keys[n] = place as u32;
+                        n += 1;
+                        from = next;
+                        let k = column(text, place, table);
+                        columns = found(columns, k, n - top);
+                    }
+                    Passed::Refused(_, _) => {
+                        let out = settle(text, keys, top, n, cell);
+                        return Heading { out, columns };
+                    }
+                }
+            }
+        }
+    }
 }
