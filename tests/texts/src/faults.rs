@@ -61,8 +61,14 @@ impl Fault {
             Fault::WrongKind => wrong_kind(random, top),
             Fault::IdOutside => id_outside(random, top),
             Fault::OwnIdRepeated => own_id_repeated(random, top),
-            Fault::TooManyEdges => too_many_edges(random, top),
-            Fault::TooManyThreads => too_many_threads(random, top),
+            Fault::TooManyEdges => {
+                let count = 4097 + random.index(3);
+                fill_edges(random, top, count);
+            }
+            Fault::TooManyThreads => {
+                let count = 257 + random.index(3);
+                fill_threads(random, top, count);
+            }
             Fault::MissingKey => missing_key(random, top),
             Fault::MissingColumn => missing_column(random, top),
             Fault::MissingCell => missing_cell(random, top),
@@ -184,8 +190,8 @@ fn own_id_repeated(random: &mut Random, top: &mut Value) {
     top.at(&ids[second]).form = top.at(&ids[first]).form.clone();
 }
 
-/// At times not one too many, but as many as pass.
-fn too_many_edges(random: &mut Random, top: &mut Value) {
+/// Puts rows into one of the tables until there are so many edges in all.
+pub fn fill_edges(random: &mut Random, top: &mut Value, count: usize) {
     let Some(way) = one(random, top, &[Role::EdgeTable]) else {
         return;
     };
@@ -195,7 +201,7 @@ fn too_many_edges(random: &mut Random, top: &mut Value) {
         Some(Form::Array(columns)) => columns.clone(),
         _ => return,
     };
-    for number in met..4097 + random.index(3) {
+    for number in met..count {
         // No other id is so great but by chance.
         let id = 1_000_000_000 + number as u64;
         table.push(Value::array(
@@ -220,13 +226,14 @@ fn cell(column: &Value, id: u64) -> Value {
     }
 }
 
-fn too_many_threads(random: &mut Random, top: &mut Value) {
+/// Puts threads into one of the processes until there are so many in all.
+pub fn fill_threads(random: &mut Random, top: &mut Value, count: usize) {
     let Some(way) = one(random, top, &[Role::Counts]) else {
         return;
     };
     let met = top.ways(&|value| value.role == Role::Thread).len();
     let counts = top.at(&way).within();
-    for _ in met..257 + random.index(3) {
+    for _ in met..count {
         counts.push(Value::integer(Role::Thread, 0));
     }
 }

@@ -3,7 +3,7 @@
 
 use crate::any;
 use crate::damage;
-use crate::faults::Fault;
+use crate::faults::{fill_edges, fill_threads, Fault};
 use crate::sound::dcfg;
 use crate::value::{characters, Form, Role, Value};
 use crate::writing::write;
@@ -30,6 +30,8 @@ pub enum Kind {
     NoDcfg,
     /// Any bytes.
     Garbage,
+    /// Accepted, with as many edges and threads as may be.
+    Full,
     /// At 1 MiB and one byte past it.
     Limit,
 }
@@ -56,7 +58,7 @@ impl Kind {
     }
 
     pub fn all() -> Vec<Kind> {
-        let long = [Kind::One(Fault::TooManyEdges), Kind::Limit];
+        let long = [Kind::One(Fault::TooManyEdges), Kind::Full, Kind::Limit];
         Kind::short().into_iter().chain(long).collect()
     }
 }
@@ -76,6 +78,7 @@ pub fn text(kind: Kind, seed: u64) -> Vec<u8> {
         Kind::NearJson => wrapped(&near_json(random)),
         Kind::NoDcfg => any_json(random),
         Kind::Garbage => garbage(random),
+        Kind::Full => full(random),
         Kind::Limit => limit(random),
         _ => damaged(random, kind),
     }
@@ -155,6 +158,13 @@ fn garbage(random: &mut Random) -> Vec<u8> {
             .map(|_| random.one_of(b"[]{}:,\"\\ 01-.eEtrufalsn"))
             .collect(),
     }
+}
+
+fn full(random: &mut Random) -> Vec<u8> {
+    let mut top = dcfg(random, 1);
+    fill_edges(random, &mut top, 4096);
+    fill_threads(random, &mut top, 256);
+    write(random, &top)
 }
 
 /// Blanks, or one long string, up to 1 MiB or one byte past it.

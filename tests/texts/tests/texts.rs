@@ -100,6 +100,41 @@ fn damage_meets_many() {
 }
 
 #[test]
+fn full_texts_are_accepted() {
+    for seed in 0..20 {
+        let lines = lines(&text(Kind::Full, seed));
+        assert!(lines.starts_with("edges 4096 threads 256\n"), "seed {seed}");
+    }
+}
+
+/// "The first in reading order is given": behind the byte that follows the place
+/// anything may stand. That byte tells where a number ends.
+#[test]
+fn what_follows_the_place_changes_nothing() {
+    let mut tried = 0;
+    for kind in Kind::short() {
+        for seed in 0..300 {
+            let mut text = text(kind, seed);
+            let expected = lines(&text);
+            let words: Vec<&str> = expected.split_whitespace().collect();
+            if words[0] != "refused" || words[1] >= "38" {
+                continue;
+            }
+            let place: usize = words[3].parse().expect("a place");
+            if place == text.len() {
+                continue;
+            }
+            text.truncate(place + 2);
+            assert_eq!(lines(&text), expected, "{kind:?} {seed}");
+            text.extend(b"]}\xFF{\"a\":0,\"a\":[,");
+            assert_eq!(lines(&text), expected, "{kind:?} {seed}");
+            tried += 1;
+        }
+    }
+    assert!(tried > 3000, "{tried}");
+}
+
+#[test]
 fn texts_at_the_limit() {
     let numbers = numbers(Kind::Limit, 20);
     assert!(numbers[&0] > 3 && numbers[&30] > 3, "{numbers:?}");
