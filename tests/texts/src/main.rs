@@ -1,5 +1,5 @@
-//! texts make SEED COUNT   writes as many texts of the short kinds, in turn, to
-//!                         standard output, each behind its length
+//! texts make SEED COUNT   writes as many short texts to standard output, each
+//!                         behind its length
 //! texts answer            reads such texts from standard input, and prints the
 //!                         second program's lines to each, with an empty line
 //!                         behind them
@@ -9,11 +9,15 @@ use std::io::{self, Read, Write};
 use std::process::ExitCode;
 use texts::{batch, text, Kind};
 
+/// Every second text is near a JSON text or is one; the others are of all short
+/// kinds in turn.
 fn make(seed: u64, count: u64) -> Vec<u8> {
+    let near = [Kind::NearJson, Kind::AnyJson, Kind::NearJson];
     let kinds = Kind::short();
     let mut stream = Vec::new();
     for index in 0..count {
-        let kind = kinds[index as usize % kinds.len()];
+        let (half, kinds) = (index as usize / 2, [&near[..], &kinds][index as usize % 2]);
+        let kind = kinds[half % kinds.len()];
         batch::put(&mut stream, &text(kind, seed.wrapping_add(index)));
     }
     stream

@@ -6,6 +6,15 @@ use super::{Listed, EDGES, THREADS};
 use crate::json::{Kind, Tree, Value};
 use std::collections::HashSet;
 
+/// The columns of EDGES, in the order of 000, 2.16.
+const EDGE_COLUMNS: [&str; 5] = [
+    "EDGE_ID",
+    "SOURCE_NODE_ID",
+    "TARGET_NODE_ID",
+    "EDGE_TYPE_ID",
+    "COUNT_PER_THREAD",
+];
+
 /// The rows of a text, or its first fault.
 pub fn judge(tree: &Tree, text: &[u8]) -> Result<Listed, (usize, u8)> {
     let mut judge = Judge {
@@ -141,27 +150,9 @@ impl<'a> Judge<'a> {
 
     /// 000, 2.16.
     fn edges(&mut self, process: u64, table: usize) {
-        let columns = [
-            "EDGE_ID",
-            "SOURCE_NODE_ID",
-            "TARGET_NODE_ID",
-            "EDGE_TYPE_ID",
-            "COUNT_PER_THREAD",
-        ];
         let mut met = HashSet::new();
-        for [id, source, target, edge_type, counts] in self.table(table, columns) {
-            let id = id.and_then(|id| self.own_id(id, &mut met));
-            let [source, target, edge_type] =
-                [source, target, edge_type].map(|cell| cell.and_then(|cell| self.id(cell)));
-            for count in counts.map_or(&[][..], |counts| self.array(counts)) {
-                self.integer(*count);
-            }
-            if let (Some(id), Some(source), Some(target), Some(edge_type)) =
-                (id, source, target, edge_type)
-            {
-                let row = [process, id, source, target, edge_type];
-                self.listed.edges.push(row);
-            }
+        for cells in self.table(table, EDGE_COLUMNS) {
+            self.edge(process, cells, &mut met);
         }
         // "In all": over the tables of all processes.
         for row in self.array(table).iter().skip(1) {
@@ -169,6 +160,21 @@ impl<'a> Judge<'a> {
             if self.edges > EDGES {
                 self.too_many(*row);
             }
+        }
+    }
+
+    fn edge(&mut self, process: u64, cells: [Option<usize>; 5], met: &mut HashSet<u64>) {
+        let [id, source, target, edge_type, counts] = cells;
+        let id = id.and_then(|id| self.own_id(id, met));
+        let [source, target, edge_type] =
+            [source, target, edge_type].map(|cell| cell.and_then(|cell| self.id(cell)));
+        for count in counts.map_or(&[][..], |counts| self.array(counts)) {
+            self.integer(*count);
+        }
+        let ids = (id, source, target, edge_type);
+        if let (Some(id), Some(source), Some(target), Some(edge_type)) = ids {
+            let row = [process, id, source, target, edge_type];
+            self.listed.edges.push(row);
         }
     }
 
