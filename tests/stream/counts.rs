@@ -6,11 +6,12 @@ use crate::times::End;
 use harness::answer;
 use harness::counts::{by_order, Table, ORDERS};
 use harness::entries;
+use second::header::LONGEST;
 use second::order::Order;
 use second::replay::Answer;
 
 /// Logs by how they do in tests 1 to 4, and when they are refused.
-const ENDS: [&str; 8] = [
+const ENDS: [&str; 9] = [
     "1 to 4 pass, accepted",
     "1 to 4 pass, refused",
     "fail 1",
@@ -19,6 +20,7 @@ const ENDS: [&str; 8] = [
     "fail 4 by size",
     "fail 4 by length, refused before",
     "fail 4 by length, at the end",
+    "fail 1 as whole logs alone",
 ];
 
 /// Those around 2^64 - 1 bytes long.
@@ -47,9 +49,12 @@ impl Counts {
         }
     }
 
-    /// A log that was cut in this way.
-    pub fn log(&mut self, order: Order, way: Way, end: End, told: &Told) {
+    /// A log of this length that was cut in this way.
+    pub fn log(&mut self, order: Order, length: usize, way: Way, end: End, told: &Told) {
         self.ways.count(way as usize, order as usize);
+        if length > LONGEST && matches!(end, End::Whole(_)) {
+            self.ends.count(8, order as usize);
+        }
         self.ended(order, end, told);
     }
 

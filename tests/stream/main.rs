@@ -1,8 +1,8 @@
 //! Feeds logs in reads to two streams, and compares after every call the answers
 //! and the whole tables: generated logs and the samples, of both byte orders, cut
-//! in several ways, each sample cut in two at every byte, and logs about 2^64 bytes
-//! long. One is the second program's stream, the other what its replay says of the
-//! whole log.
+//! in several ways, each sample cut in two at every byte, and longer logs than can
+//! be replayed whole, up to 2^64 bytes. One is the second program's stream, the
+//! other what its replay says of the whole log.
 //!
 //! `stream [LOGS] [--seed SEED]`
 
@@ -21,8 +21,10 @@ use cuts::Way;
 use driver::{Call, Driver};
 use far::Far;
 use harness::suite::{self, Words};
+use logs::calls;
 use logs::inputs::{self, Input, Kind};
 use logs::random::Random;
+use second::header::LONGEST;
 use second::order::Order;
 use second::stream::Stream;
 use std::process::ExitCode;
@@ -64,7 +66,7 @@ impl Run {
             let text = format!("{way:?}, {} reads: {text}", reads.len());
             suite::difference(name, seed, log, &text)
         })?;
-        self.counts.log(order, way, times.end(), &told);
+        self.counts.log(order, log.len(), way, times.end(), &told);
         Ok(())
     }
 
@@ -118,6 +120,10 @@ fn run(words: Words) -> Result<String, String> {
         if (index / 2).is_multiple_of(FAR) && !kind.is_huge() {
             run.far(&input)?;
         }
+    }
+    for order in Order::ALL {
+        let log = calls::of_length(LONGEST + 4096, seed, order);
+        run.compare(&log, order, seed, &format!("too long, {order:?}"))?;
     }
     // In the order that is theirs at every cut, and in the other.
     for sample in inputs::samples()? {
