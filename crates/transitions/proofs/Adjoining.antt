@@ -13,16 +13,16 @@ use Rattle.refusal.proofs.Cases.{by-lt, by-eq}
 use Rattle.transitions.specs.Table.{Row, codeAt, rowAt, places, rowsFrom, rowsOf, any, badRow, begins, clash, clashes, badTable}
 use Rattle.transitions.specs.Key.{keyAt}
 use Rattle.transitions.specs.Order.{UpTo}
-use Rattle.transitions.specs.Sorting.{Each, Swaps, Distinct}
+use Rattle.transitions.specs.Sorting.{Each, exchanged, Swaps, still, swapped, Sorted}
 use Rattle.transitions.specs.View.{Sound, Good}
-use Rattle.transitions.specs.Index.{Run}
+use Rattle.transitions.specs.Index.{Run, Pair, Told}
 use Rattle.transitions.specs.Walk.{noMatch, along, ofEdge, matches, matching, pick}
 use Rattle.transitions.proofs.Stepping.{matching-hit, matching-miss}
 use Rattle.transitions.proofs.Choices.{and-true, both-true, or-left, or-right, or-false, or-one}
 use Rattle.transitions.proofs.Coding.{either}
 use Rattle.transitions.proofs.Ordering.{never, upTo-antisym}
-use Rattle.transitions.proofs.Placing.{places-distinct, places-good}
-use Rattle.transitions.proofs.Swapping.{Stands, swaps-length, swaps-from, swaps-onto, swaps-distinct, swaps-each}
+use Rattle.transitions.proofs.Placing.{places-good}
+use Rattle.transitions.proofs.Swapping.{Stands, length-exchanged, source, source-in, source-one, swaps-length, swaps-from, swaps-onto, swaps-each}
 
 pub begins-up : (l m : List ℕ) → begins l m ≡ true → UpTo l m
 unfolding begins UpTo
@@ -97,14 +97,6 @@ module _ (t : List ℕ) where
       (λ x. or-left (begins (keyAt t q) (keyAt t p)) (begins (keyAt t p) (keyAt t q)) x)
       (clash-keys p q h))
 
-  -- Two rows of a list that clash.
-  pub record Pair (l : List ℕ) : Type 0 where
-    pub first : ℕ
-    pub second : ℕ
-    pub below : first < second
-    pub inside : second < length l
-    pub clashes : Clash (getD l first 0) (getD l second 0)
-
   record Hit (f : Row → Bool) (l : List ℕ) : Type 0 where
     index : ℕ
     inside : index < length l
@@ -131,7 +123,7 @@ module _ (t : List ℕ) where
       go true e = let h = hit f l e in absurd (miss (h .index) (h .inside) (h .hits))
       go false e = e
 
-  pub pair-of : (l : List ℕ) → clashes (map (rowAt t) l) ≡ true → Pair l
+  pub pair-of : (l : List ℕ) → clashes (map (rowAt t) l) ≡ true → Pair t l
   unfolding clashes
   pair-of [] e = absurd (never false refl e)
   pair-of (p ∷ l) e = ⊎-elim
@@ -146,17 +138,39 @@ module _ (t : List ℕ) where
   pair-clashes (p ∷ l) zero (suc j) ij jl h = or-left (any (clash (rowAt t p)) (map (rowAt t) l)) (clashes (map (rowAt t) l)) (any-at (clash (rowAt t p)) l j (omega arith) h)
   pair-clashes (p ∷ l) (suc i) (suc j) ij jl h = or-right (any (clash (rowAt t p)) (map (rowAt t) l)) (clashes (map (rowAt t) l)) (pair-clashes l i j (omega arith) (omega arith) h)
 
-  -- In a list that has each element of the first, a pair is found too.
-  pair-moved : (a b : List ℕ) (n : ℕ) → n ≤ length b → Distinct a → ((k : ℕ) → k < length a → Stands b n (getD a k 0)) → Pair a → Pair b
-  pair-moved a b n nb d has h =
-      let i = has (h .first) (omega (arith, h .below, h .inside)) in
-      let j = has (h .second) (h .inside) in
-      let same : Clash (getD b (i .index) 0) (getD b (j .index) 0) = subst (λ (p : ℕ). Clash p (getD b (j .index) 0)) (i .is) (subst (λ (q : ℕ). Clash (getD a (h .first) 0) q) (j .is) (h .clashes)) in
-      by-lt (i .index) (j .index)
-      (λ l. record { first = i .index; second = j .index; below = l; inside = omega (arith, j .inside); clashes = same })
-      (λ l. by-eq (i .index) (j .index)
-      (λ e. absurd (omega (arith, h .below, d (h .first) (h .second) (omega (arith, h .below, h .inside)) (h .inside) (i .is ∙ ap (λ (n : ℕ). getD b n 0) e ∙ sym (j .is)))))
-      (λ ne. record { first = j .index; second = i .index; below = omega arith; inside = omega (arith, i .inside); clashes = clash-back (getD b (i .index) 0) (getD b (j .index) 0) same }))
+  -- Swaps keep what clashes.
+  ordered : (b : List ℕ) (f s : ℕ) → (f ≡ s → ⊥) → f < length b → s < length b → Clash (getD b f 0) (getD b s 0) → Pair t b
+  ordered b f s ne fl sl h = by-lt f s
+      (λ l. record { first = f; second = s; below = l; inside = sl; clashes = h })
+      (λ l. by-eq f s (λ e. absurd (ne e))
+      (λ _. record { first = s; second = f; below = omega arith; inside = fl; clashes = clash-back (getD b f 0) (getD b s 0) h }))
+
+  module _ (a : List ℕ) (i j : ℕ) (ij : i < j) (jl : j < length a) where
+    pair-from : Pair t (exchanged a i j) → Pair t a
+    pair-from h =
+        let len = length-exchanged a i j in
+        let f = source a i j ij jl (h .first) in
+        let s = source a i j ij jl (h .second) in
+        ordered a (f .from) (s .from) (λ e. omega (arith, h .below, source-one a i j ij jl f s e))
+        (source-in a i j ij jl (length a) jl f (omega (arith, h .below, h .inside))) (source-in a i j ij jl (length a) jl s (omega (arith, h .inside)))
+        (subst (λ (p : ℕ). Clash p (getD a (s .from) 0)) (f .is) (subst (λ (q : ℕ). Clash (getD (exchanged a i j) (h .first) 0) q) (s .is) (h .clashes)))
+
+    pair-to : Pair t a → Pair t (exchanged a i j)
+    pair-to h =
+        let len = length-exchanged a i j in
+        let f = source a i j ij jl (h .first) in
+        let s = source a i j ij jl (h .second) in
+        ordered (exchanged a i j) (f .from) (s .from) (λ e. omega (arith, h .below, source-one a i j ij jl f s e))
+        (omega (arith, source-in a i j ij jl (length a) jl f (omega (arith, h .below, h .inside)))) (omega (arith, source-in a i j ij jl (length a) jl s (h .inside)))
+        (subst (λ (p : ℕ). Clash p (getD (exchanged a i j) (s .from) 0)) (f .back) (subst (λ (q : ℕ). Clash (getD a (h .first) 0) q) (s .back) (h .clashes)))
+
+  pub pair-on : {m : ℕ} {a b : List ℕ} → m ≤ length a → Swaps m a b → Pair t a → Pair t b
+  pair-on ml still h = h
+  pair-on ml (swapped {b = b} {i = i} {j = j} s ij jm) h = pair-to b i j ij (omega (arith, swaps-length s)) (pair-on ml s h)
+
+  pub pair-back : {m : ℕ} {a b : List ℕ} → m ≤ length a → Swaps m a b → Pair t b → Pair t a
+  pair-back ml still h = h
+  pair-back ml (swapped {b = b} {i = i} {j = j} s ij jm) h = pair-back ml s (pair-from b i j ij (omega (arith, swaps-length s)) h)
 
   -- No two neighbours before i clash.
   abbrev pub Apart : List ℕ → ℕ → Type 0
@@ -170,47 +184,49 @@ module _ (t : List ℕ) where
     run-row j h = swaps-from (le-refl (length (places t 0))) (r .swaps) j (omega (arith, run-long))
 
     pub run-good : Sound t 0 → Each (Good t) run
-    run-good s = swaps-each (Good t) (le-refl (length (places t 0))) (r .swaps) (places-good t s)
+    run-good s = swaps-each (Good t) (le-refl (length (places t 0))) (r .swaps) (places-good t 0 s)
 
     pub row-run : (k : ℕ) → k < length (places t 0) → Stands run (length (places t 0)) (getD (places t 0) k 0)
     row-run k h = swaps-onto (le-refl (length (places t 0))) (r .swaps) k h
 
-    to-run : Pair (places t 0) → Pair run
-    to-run = pair-moved (places t 0) run (length (places t 0)) (omega (arith, run-long)) (places-distinct t) row-run
-
-    of-run : Pair run → Pair (places t 0)
-    of-run = pair-moved run (places t 0) (length (places t 0)) (le-refl (length (places t 0)))
-        (swaps-distinct (le-refl (length (places t 0))) (r .swaps) (places-distinct t)) run-row
-
     pub run-clashes : (i j : ℕ) → i < j → j < length run → Clash (getD run i 0) (getD run j 0) → clashes (rowsOf t) ≡ true
     unfolding rowsFrom
     run-clashes i j ij jl h =
-        let p = of-run (record { first = i; second = j; below = ij; inside = jl; clashes = h }) in
+        let p = pair-back (le-refl (length (places t 0))) (r .swaps) (record { first = i; second = j; below = ij; inside = jl; clashes = h }) in
         pair-clashes (places t 0) (p .first) (p .second) (p .below) (p .inside) (p .clashes)
 
+  -- What pairs of all rows tell.
+  pub some-pair : Pair t (places t 0) → true ≡ clashes (rowsOf t)
+  unfolding rowsFrom
+  some-pair p = sym (pair-clashes (places t 0) (p .first) (p .second) (p .below) (p .inside) (p .clashes))
+
+  pub no-pair : (Pair t (places t 0) → ⊥) → false ≡ clashes (rowsOf t)
+  unfolding rowsFrom
+  no-pair miss = sym (not-true-is (clashes (map (rowAt t) (places t 0))) (λ e. miss (pair-of (places t 0) e)))
+
+  pub told-run : (run : List ℕ) → Run t run → (b : Bool) → Told t run b → b ≡ clashes (rowsOf t)
+  told-run run r true h = some-pair (pair-back (le-refl (length (places t 0))) (r .swaps) (h .told refl))
+  told-run run r false h = no-pair (λ p. h .denied refl (pair-on (le-refl (length (places t 0))) (r .swaps) p))
+
+  module _ (run : List ℕ) (so : Sorted (keyAt t) run) where
     abbrev key : ℕ → List ℕ
     key j = keyAt t (getD run j 0)
 
     -- Where two clash, the first clashes with its neighbour.
-    beside : (h : Pair run) → Clash (getD run (h .first) 0) (getD run (h .first + 1) 0)
+    beside : (h : Pair t run) → Clash (getD run (h .first) 0) (getD run (h .first + 1) 0)
     beside h =
         let i : ℕ = h .first in
         let j : ℕ = h .second in
-        let up : UpTo (key i) (key j) = r .sorted i j (h .below) (h .inside) .keys in
+        let up : UpTo (key i) (key j) = so i j (h .below) (h .inside) .keys in
         let ahead : begins (key i) (key j) ≡ true = ⊎-elim (λ x. x)
         (λ x. subst (λ (l : List ℕ). begins (key i) l ≡ true) (upTo-antisym (key i) (key j) up (begins-up (key j) (key i) x)) (begins-self (key i)))
         (clash-keys (getD run i 0) (getD run j 0) (h .clashes)) in
         clash-of (getD run i 0) (getD run (i + 1) 0) (or-left (begins (key i) (key (i + 1))) (begins (key (i + 1)) (key i)) (by-eq (i + 1) j
         (λ e. subst (λ (n : ℕ). begins (key i) (key n) ≡ true) (sym e) ahead)
-        (λ ne. between-begins (key i) (key (i + 1)) (key j) (r .sorted i (i + 1) (omega arith) (omega (arith, h .below, h .inside)) .keys) (r .sorted (i + 1) j (omega (arith, h .below)) (h .inside) .keys) ahead)))
+        (λ ne. between-begins (key i) (key (i + 1)) (key j) (so i (i + 1) (omega arith) (omega (arith, h .below, h .inside)) .keys) (so (i + 1) j (omega (arith, h .below)) (h .inside) .keys) ahead)))
 
-    pub all-apart : (i : ℕ) → length run ≤ i → Apart run i → false ≡ clashes (rowsOf t)
-    unfolding rowsFrom
-    all-apart i h a = go (clashes (rowsOf t)) refl
-      where
-        go : (b : Bool) → clashes (rowsOf t) ≡ b → false ≡ clashes (rowsOf t)
-        go true e = let p = to-run (pair-of (places t 0) e) in absurd (a (p .first) (omega (arith, p .below, p .inside)) (beside p))
-        go false e = sym e
+    pub all-apart : (i : ℕ) → length run ≤ i → Apart run i → Pair t run → ⊥
+    all-apart i h a p = a (p .first) (omega (arith, p .below, p .inside)) (beside p)
 
     pub apart-more : (i : ℕ) → 1 ≤ i → Apart run i → (Clash (getD run (i - 1) 0) (getD run i 0) → ⊥) → Apart run (i + 1)
     apart-more i pos a miss j h x = by-eq (j + 1) i

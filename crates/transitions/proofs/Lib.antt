@@ -14,3 +14,4 @@ pub mod Adjoining
 pub mod Halving
 pub mod Indexing
 pub mod Counting
+pub mod Parting

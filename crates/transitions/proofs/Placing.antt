@@ -7,12 +7,12 @@ use native.Mathlib.Omega.{arith}
 use borrow.Author.Tests.{lt-ltb, le-ltb, eq-eqb, ne-eqb, ltb-false, eqb-false}
 use lib.Dec.{ltb, eqb}
 use native.Mathlib.Numerals.{add-one}
-use lib.ListN.{length, getD, set, take, drop, length-drop}
-use lib.Seq.{length-take-le, take-suc-set, append-snoc}
+use lib.ListN.{length, getD, set, take, drop, length-drop, drop-of-length-le}
+use lib.Seq.{length-take-le, take-all, take-at, drop-at, take-suc-set, append-snoc}
 use Rattle.refusal.proofs.Cases.{by-lt}
 use Rattle.transitions.specs.Table.{Row, codeLength, listAt, listLength, behind, codeAt, nextAt, rowAt, placesFrom, places, rowsFrom, any, noBit, badRow}
 use Rattle.transitions.specs.View.{Sound, Good}
-use Rattle.transitions.specs.Sorting.{Each, Rising, Distinct}
+use Rattle.transitions.specs.Sorting.{Each}
 use Rattle.transitions.proofs.Choices.{or-left, or-right, or-neither, or-false, any-miss}
 
 places-one : (n : ℕ) (t : List ℕ) (p : ℕ) → p < length t → placesFrom (suc n) t p ≡ p ∷ placesFrom n t (behind t p)
@@ -127,56 +127,48 @@ module _ (t : List ℕ) (p : ℕ) (g : behind t p ≤ length t) where
   pub next-length : length (nextAt t p) ≡ listLength t p
   next-length = length-take-le (listLength t p) (drop (listAt t p + 1) t) (omega (arith, length-drop (listAt t p + 1) t))
 
--- Places rise.
-low : (n : ℕ) (t : List ℕ) (p k : ℕ) → k < length (placesFrom n t p) → p ≤ getD (placesFrom n t p) k 0
-low zero t p k h = absurd (omega (arith, ap length (places-none t p)))
-low (suc n) t p k h = by-lt p (length t)
-    (λ l. subst (λ (r : List ℕ). k < length r → p ≤ getD r k 0) (sym (places-one n t p l)) (first k (low n t (behind t p))) h)
-    (λ l. absurd (omega (arith, ap length (places-stop (suc n) t p l))))
-  where
-    first : (k : ℕ) → ((j : ℕ) → j < length (placesFrom n t (behind t p)) → behind t p ≤ getD (placesFrom n t (behind t p)) j 0)
-        → k < length (p ∷ placesFrom n t (behind t p)) → p ≤ getD (p ∷ placesFrom n t (behind t p)) k 0
-    first zero f h = omega arith
-    first (suc j) f h = omega (arith, f j (omega arith))
-
-rising : (n : ℕ) (t : List ℕ) (p : ℕ) → Rising (placesFrom n t p)
-rising zero t p i j ij h = absurd (omega (arith, ap length (places-none t p)))
-rising (suc n) t p i j ij h = by-lt p (length t)
-    (λ l. subst Rising (sym (places-one n t p l)) (further (rising n t (behind t p))) i j ij h)
-    (λ l. absurd (omega (arith, ap length (places-stop (suc n) t p l))))
-  where
-    further : Rising (placesFrom n t (behind t p)) → Rising (p ∷ placesFrom n t (behind t p))
-    further f i zero ij h = absurd (omega arith)
-    further f zero (suc j) ij h = omega (arith, low n t (behind t p) j (omega arith))
-    further f (suc i) (suc j) ij h = f i j (omega arith) (omega arith)
-
-rising-distinct : (a : List ℕ) → Rising a → Distinct a
-rising-distinct a up i j il jl e = by-lt i j
-    (λ l. absurd (omega (arith, up i j l jl)))
-    (λ l. by-lt j i (λ m. absurd (omega (arith, up j i m il))) (λ m. omega arith))
-
-pub places-distinct : (t : List ℕ) → Distinct (places t 0)
-unfolding places
-places-distinct t = rising-distinct (placesFrom (length t) t 0) (rising (length t) t 0)
-
+-- Each is good where none is bad.
 any-false : (f : ℕ → Bool) (l : List ℕ) → any f l ≡ false → (k : ℕ) → k < length l → f (getD l k 0) ≡ false
 unfolding any
 any-false f [] e k h = absurd (omega arith)
 any-false f (p ∷ l) e zero h = or-false (f p) (any f l) e .0
 any-false f (p ∷ l) e (suc k) h = any-false f l (or-false (f p) (any f l) e .1) k (omega arith)
 
-pub places-good : (t : List ℕ) → Sound t 0 → Each (Good t) (places t 0)
+pub places-good : (t : List ℕ) (p : ℕ) → Sound t p → Each (Good t) (places t p)
 unfolding Sound
-places-good t s k h = good t (getD (places t 0) k 0) (any-false (badRow t) (places t 0) s k h)
+places-good t p s k h = good t (getD (places t p) k 0) (any-false (badRow t) (places t p) s k h)
 
 -- Places noted one by one.
-pub noted-on : (t index : List ℕ) (p n q : ℕ) → n < length index → p < length t → q ≡ behind t p
-    → take n index ++ places t p ≡ places t 0 → take (n + 1) (set index n p) ++ places t q ≡ places t 0
-noted-on t index p n q h l e is =
+pub noted-on : (t index : List ℕ) (from p n q : ℕ) → n < length index → p < length t → q ≡ behind t p
+    → take n index ++ places t p ≡ places t from → take (n + 1) (set index n p) ++ places t q ≡ places t from
+noted-on t index from p n q h l e is =
     ap (λ (m : ℕ). take m (set index n p) ++ places t q) (add-one n)
     ∙ ap₂ (λ (a b : List ℕ). a ++ b) (take-suc-set index n p h) (ap (places t) e)
     ∙ append-snoc (take n index) p (places t (behind t p))
     ∙ ap (λ (r : List ℕ). take n index ++ r) (sym (places-cons t p l)) ∙ is
 
-pub noted-all : (t index : List ℕ) (p n : ℕ) → length t ≤ p → take n index ++ places t p ≡ places t 0 → take n index ≡ places t 0
-noted-all t index p n l is = sym (append-nil (take n index)) ∙ ap (λ (r : List ℕ). take n index ++ r) (sym (places-end t p l)) ∙ is
+module _ (t index : List ℕ) (from p n : ℕ) (fits : n ≤ length index) (is : take n index ++ places t p ≡ places t from) where
+  -- The index is full.
+  module _ (full : length index ≤ n) where
+    filled : length (take n index) ≡ length index
+    filled = length-take-le n index fits ∙ omega arith
+
+    pub full-noted : take n index ≡ take (length index) (places t from)
+    full-noted = sym (take-at (take n index) (places t p) (length index) filled) ∙ ap (take (length index)) is
+
+    pub full-rest : places t p ≡ drop (length index) (places t from)
+    full-rest = sym (drop-at (take n index) (places t p) (length index) filled) ∙ ap (drop (length index)) is
+
+  -- No row is left.
+  module _ (over : length t ≤ p) where
+    all : take n index ≡ places t from
+    all = sym (append-nil (take n index)) ∙ ap (λ (r : List ℕ). take n index ++ r) (sym (places-end t p over)) ∙ is
+
+    within : length (places t from) ≤ length index
+    within = omega (arith, ap length all, length-take-le n index fits)
+
+    pub over-noted : take n index ≡ take (length index) (places t from)
+    over-noted = all ∙ sym (take-all (length index) (places t from) within)
+
+    pub over-rest : places t p ≡ drop (length index) (places t from)
+    over-rest = places-end t p over ∙ sym (drop-of-length-le (places t from) {i = length index} within)

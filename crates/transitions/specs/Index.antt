@@ -1,21 +1,73 @@
 -- The index of a table: the places of its rows, sorted by their keys. Assumes nothing.
-use Prim.Native.Nat.{ℕ, _<_, _≤_}
+use Prim.Native.Nat.{ℕ, _-_, _/_, _<_, _≤_}
 use mathlib.Core.Path.{_≡_}
-use mathlib.Core.List.{List, _∷_}
-use lib.ListN.{length, getD, take}
+use mathlib.Core.List.{List, _∷_, _++_}
+use lib.ListN.{length, getD, take, drop}
 use mathlib.Core.Bool.{Bool, true, false}
-use Rattle.transitions.specs.Table.{places, rowsOf, clashes}
+use Rattle.transitions.specs.Table.{rowAt, places, rowsOf, clash, clashes}
 use Rattle.transitions.specs.View.{Sound}
 use Rattle.transitions.specs.Key.{keyAt}
 use Rattle.transitions.specs.Order.{UpTo}
 use Rattle.transitions.specs.Sorting.{Swaps, Sorted}
-use Rattle.transitions.specs.declared.index.Noted.{Noted}
-use Rattle.transitions.specs.declared.index.Noted.the-variants.{Rows}
+use Rattle.transitions.specs.declared.index.Part.{Part}
+use Rattle.transitions.specs.declared.parts.Block.{Block}
+use Rattle.transitions.specs.declared.parts.Verdict.{Verdict}
 
--- The places of all rows are noted, where there is room for them.
-pub record Noting (t : List ℕ) (r : Noted) (index : List ℕ) : Type 0 where
-  pub room : (n : ℕ) → r ≡ Rows n → n ≤ length index
-  pub all : (n : ℕ) → r ≡ Rows n → take n index ≡ places t 0
+-- The places of rows from one on are noted, as many as there is room for, and the next row's is told.
+pub record Noting (t : List ℕ) (from : ℕ) (r : Part) (index : List ℕ) : Type 0 where
+  pub room : r .rows ≤ length index
+  pub noted : take (r .rows) index ≡ take (length index) (places t from)
+  pub rest : places t (r .next) ≡ drop (length index) (places t from)
+  pub sound : Sound t (r .next)
+  pub onward : from ≤ r .next
+  pub ahead : from < length t → 0 < length index → from < r .next
+
+-- Two rows of a list that clash.
+pub record Pair (t l : List ℕ) : Type 0 where
+  pub first : ℕ
+  pub second : ℕ
+  pub below : first < second
+  pub inside : second < length l
+  pub clashes : clash (rowAt t (getD l first 0)) (rowAt t (getD l second 0)) ≡ true
+
+-- Whether there are two.
+pub record Told (t l : List ℕ) (r : Bool) : Type 0 where
+  pub told : r ≡ true → Pair t l
+  pub denied : r ≡ false → Pair t l → ⊥
+
+-- So many rows from p on, with as many from q on as there is room for behind them.
+abbrev pub frontOf : List ℕ → ℕ → ℕ → List ℕ
+frontOf t p room = take (room / 2) (places t p)
+
+abbrev pub restOf : List ℕ → ℕ → ℕ → ℕ
+restOf t p room = room - length (frontOf t p room)
+
+-- The rows that are held against each other.
+abbrev pub heldOf : List ℕ → ℕ → ℕ → ℕ → List ℕ
+heldOf t p q room = frontOf t p room ++ take (restOf t p room) (places t q)
+
+pub record NotedTwo (t : List ℕ) (p q room : ℕ) (r : Part) (index : List ℕ) : Type 0 where
+  pub fits : r .rows ≤ length index
+  pub noted : take (r .rows) index ≡ heldOf t p q room
+  pub rest : places t (r .next) ≡ drop (restOf t p room) (places t q)
+  pub sound : Sound t (r .next)
+  pub onward : q ≤ r .next
+  pub ahead : q < length t → q < r .next
+
+pub record Blocked (t : List ℕ) (p q room : ℕ) (r : Block) : Type 0 where
+  pub two : Told t (heldOf t p q room) (r .clash)
+  pub rest : places t (r .next) ≡ drop (restOf t p room) (places t q)
+  pub sound : Sound t (r .next)
+  pub onward : q ≤ r .next
+  pub ahead : q < length t → q < r .next
+
+-- A part is held against itself and all rows behind it.
+pub record Crossed (t : List ℕ) (p : ℕ) (r : Block) : Type 0 where
+  pub found : r .clash ≡ true → Pair t (places t p)
+  pub none : r .clash ≡ false → Pair t (places t p) → Pair t (places t (r .next))
+  pub back : Pair t (places t (r .next)) → Pair t (places t p)
+  pub sound : Sound t (r .next)
+  pub ahead : p < length t → p < r .next
 
 pub record Run (t run : List ℕ) : Type 0 where
   pub sorted : Sorted (keyAt t) run
@@ -46,3 +98,8 @@ pub record Halved (t run key : List ℕ) (u : ℕ) : Type 0 where
   pub within : u ≤ length run
   pub lower : (j : ℕ) → j < u → UpTo (keyAt t (getD run j 0)) key
   pub upper : (j : ℕ) → u ≤ j → j < length run → UpTo key (keyAt t (getD run j 0)) × (keyAt t (getD run j 0) ≡ key → ⊥)
+
+-- What the test of two by two tells, with the index that it leaves.
+pub record Tested (t : List ℕ) (r : Verdict) (index : List ℕ) : Type 0 where
+  pub is : r .clash ≡ clashes (rowsOf t)
+  pub ready : Ready t (r .rows) index

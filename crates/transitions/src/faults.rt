@@ -1,10 +1,8 @@
 // The faults of a table.
 ghost use mathlib.Core.Path.{_≡_};
-ghost use mathlib.Core.Bool.{false};
 ghost use Prim.Native.Nat.{_<_, _≤_};
 ghost use lib.ListN.{length};
-ghost use Rattle.transitions.specs.Table.{behind, rowAt, places, rowsFrom, rowsOf, any, badRow, clash, clashes};
-ghost use Rattle.transitions.specs.View.{Sound};
+ghost use Rattle.transitions.specs.Table.{behind, rowAt, places, any, badRow, clash};
 use crate::codes::agree;
 use crate::codes::strange;
 use crate::rows::after;
@@ -64,33 +62,4 @@ pub fn clashing(table: &[u64], p: usize, q: usize) -> bool
         return false;
     }
     agree(code(table, p), code(table, q))
-}
-
-// Whether the row at p clashes with one behind it.
-fn clash_behind(table: &[u64], p: usize) -> bool
-    requires { ⌜ (p < length (now table)) × Sound (now table) p ⌝ }
-    ensures { λ r. ⌜ r ≡ any (clash (rowAt (now (table .entry)) p)) (rowsFrom (now (table .entry)) (behind (now (table .entry)) p)) ⌝ }
-{
-    let mut q = after(table, p);
-    while q < table.len() {
-        if clashing(table, p, q) {
-            return true;
-        }
-        q = after(table, q);
-    }
-    false
-}
-
-pub fn some_clash(table: &[u64]) -> bool
-    requires { ⌜ Sound (now table) 0 ⌝ }
-    ensures { λ r. ⌜ r ≡ clashes (rowsOf (now (table .entry))) ⌝ }
-{
-    let mut p: usize = 0;
-    while p < table.len() {
-        if clash_behind(table, p) {
-            return true;
-        }
-        p = after(table, p);
-    }
-    false
 }

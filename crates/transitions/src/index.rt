@@ -4,42 +4,43 @@ ghost use mathlib.Core.Bool.{false};
 ghost use mathlib.Core.List.{_∷_};
 ghost use Prim.Native.Nat.{_<_};
 ghost use lib.ListN.{length};
-ghost use Rattle.transitions.specs.Table.{rowsOf, clashes};
 ghost use Rattle.transitions.specs.View.{Sound};
-ghost use Rattle.transitions.specs.Index.{Noting, Run, Index, Ready, Halved};
+ghost use Rattle.transitions.specs.Index.{Noting, Told, Run, Ready, Halved};
+ghost use Rattle.transitions.specs.Key.{keyAt, Place};
+ghost use Rattle.transitions.specs.Sorting.{Each, Sorted};
 use crate::faults::clashing;
-use crate::faults::some_clash;
 use crate::heap::sort;
 use crate::order::Order;
 use crate::order::against;
 use crate::rows::after;
 
-pub enum Noted {
-    Rows(usize),
-    Many,
+pub struct Part {
+    pub rows: usize,
+    pub next: usize,
 }
 
-pub fn note(table: &[u64], index: &mut [usize]) -> Noted
-    requires { ⌜ Sound (now table) 0 ⌝ }
-    ensures { λ r. ⌜ Noting (now (table .entry)) r (now (index .exit)) ⌝ }
+// Notes the places of rows from one on, as many as there is room for.
+pub fn note(table: &[u64], from: usize, index: &mut [usize]) -> Part
+    requires { ⌜ Sound (now table) from ⌝ }
+    ensures { λ r. ⌜ Noting (now (table .entry)) from r (now (index .exit)) ⌝ }
 {
-    let mut p: usize = 0;
+    let mut p = from;
     let mut n: usize = 0;
     while p < table.len() {
         if index.len() <= n {
-            return Noted::Many;
+            return Part { rows: n, next: p };
         }
         index[n] = p;
         n += 1;
         p = after(table, p);
     }
-    Noted::Rows(n)
+    Part { rows: n, next: p }
 }
 
 // Whether two neighbours clash.
 pub fn neighbours(table: &[u64], run: &[usize]) -> bool
-    requires { ⌜ Sound (now table) 0 × Run (now table) (now run) ⌝ }
-    ensures { λ r. ⌜ r ≡ clashes (rowsOf (now (table .entry))) ⌝ }
+    requires { ⌜ Each (Place (now table)) (now run) × Sorted (keyAt (now table)) (now run) ⌝ }
+    ensures { λ r. ⌜ Told (now (table .entry)) (now (run .entry)) r ⌝ }
 {
     let mut i: usize = 1;
     while i < run.len() {
@@ -79,26 +80,16 @@ pub fn upper(table: &[u64], run: &[usize], edge: u64, bits: &[u8]) -> usize
     low
 }
 
-// Whether two rows of the table clash: by its index, or each row with each.
-pub fn clash_in(table: &[u64], run: &[usize]) -> bool
-    requires { ⌜ Sound (now table) 0 × Index (now table) (now run) ⌝ }
-    ensures { λ r. ⌜ r ≡ clashes (rowsOf (now (table .entry))) ⌝ }
-{
-    if run.len() == 0 {
-        return some_clash(table);
-    }
-    neighbours(table, run)
-}
-
 // Makes the index, where there is room for it, and tells how many rows it has.
 pub fn index_rows(table: &[u64], index: &mut [usize]) -> usize
     requires { ⌜ Sound (now table) 0 ⌝ }
     ensures { λ r. ⌜ Ready (now (table .entry)) r (now (index .exit)) ⌝ }
 {
-    let noted = note(table, index);
-    let Noted::Rows(n) = noted else {
+    let part = note(table, 0, index);
+    if part.next < table.len() {
         return 0;
-    };
+    }
+    let n = part.rows;
     sort(table, &mut index[..n]);
     n
 }

@@ -3,11 +3,9 @@ ghost use mathlib.Core.Path.{_≡_};
 ghost use Prim.Native.Nat.{_≤_};
 ghost use lib.ListN.{length};
 ghost use Rattle.transitions.specs.Walk.{walkOf, answerOf, toldBy, listAfter};
-ghost use Rattle.transitions.specs.View.{Sound};
-ghost use Rattle.transitions.specs.Index.{Index};
+ghost use Rattle.transitions.specs.Index.{Indexed};
 use faults::bad_rows;
-use index::clash_in;
-use index::index_rows;
+use parts::test;
 use refusal::Refusal;
 use route::fill;
 use route::follow;
@@ -17,6 +15,7 @@ mod faults;
 mod heap;
 mod index;
 mod order;
+mod parts;
 mod route;
 mod rows;
 mod search;
@@ -29,7 +28,7 @@ pub enum Walked {
 // The most rows that are sorted.
 const ROWS: usize = 65536;
 
-// Behind the tests of single rows. The list is written once the whole walk is known.
+// Behind the tests of the table. The list is written once the whole walk is known.
 fn walk_rows(
     table: &[u64],
     run: &[usize],
@@ -38,13 +37,10 @@ fn walk_rows(
     wanted: usize,
     list: &mut [u64],
 ) -> Walked
-    requires { ⌜ Sound (now table) 0 × Index (now table) (now run) × (wanted ≤ length (now list)) ⌝ }
+    requires { ⌜ Indexed (now table) (now run) × (wanted ≤ length (now list)) ⌝ }
     ensures { λ r. ⌜ toldBy r ≡ answerOf (walkOf (now (table .entry)) start (now (bits .entry)) wanted (length (now (list .entry)))) ⌝ }
     ensures { λ r. ⌜ now (list .exit) ≡ listAfter (walkOf (now (table .entry)) start (now (bits .entry)) wanted (length (now (list .entry)))) (now (list .entry)) ⌝ }
 {
-    if clash_in(table, run) {
-        return Walked::Refused(Refusal::TransitionTable);
-    }
     let end = follow(table, run, start, bits, wanted);
     if let Walked::Listed = end {
         fill(table, run, start, bits, wanted, list);
@@ -64,6 +60,10 @@ pub fn walk(table: &[u64], start: u64, bits: &[u8], wanted: usize, list: &mut [u
         return Walked::Refused(Refusal::TransitionTable);
     }
     let mut index = [0usize; ROWS];
-    let rows = index_rows(table, &mut index);
+    let tested = test(table, &mut index);
+    if tested.clash {
+        return Walked::Refused(Refusal::TransitionTable);
+    }
+    let rows = tested.rows;
     walk_rows(table, &index[..rows], start, bits, wanted, list)
 }
