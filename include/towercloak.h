@@ -128,8 +128,8 @@ enum {
  *           empty; or some edge has two rows where one code begins or equals the other. All rows are tested first.
  * 41 to 44  The walk is refused where it stands, as told above.
  *
- * After a refusal the list is as it was. A walk takes half a MiB of stack. Tables of up to 65,536 rows are sorted first; a
- * larger one is tested row with row, in time that grows with the square of its rows.
+ * After a refusal the list is as it was. A walk takes half a MiB of stack. Tables of up to 65,536 rows are sorted first, and
+ * a step finds its row by halving; a larger one is tested in parts, each with each, and a step goes through all rows.
  */
 uint32_t towercloak_walk(const uint64_t *table, size_t numbers, uint64_t start, const char *bits, size_t bit_count,
                          uint64_t wanted, uint64_t *list, size_t length);
