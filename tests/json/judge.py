@@ -1,4 +1,4 @@
-"""Python's json as a judge of JSON and of where a text breaks.
+"""Python's json as a judge of JSON, and of what a text that breaks off can still become.
 
 RFC 8259 leaves some of it to the parser. What is done here, so that the grammar alone decides:
 
@@ -11,6 +11,7 @@ RFC 8259 leaves some of it to the parser. What is done here, so that the grammar
 """
 
 import json
+import re
 import sys
 
 sys.setrecursionlimit(20_000)
@@ -47,18 +48,11 @@ def parsed(text):
         raise NotJson from error
 
 
-def is_json(text):
-    try:
-        parsed(text)
-    except NotJson:
-        return False
-    return True
-
-
 # What may be missing behind a text that breaks off: the rest of a character, of a string, of another token, of a member.
 CHARACTERS = [b"", b"\x80", b"\x90", b"\xa0", b"\x80\x80", b"\x90\x80", b"\xa0\x80", b"\x80\x80\x80", b"\x90\x80\x80"]
 IN_STRINGS = [b'"', b'n"', b'0"', b'00"', b'000"', b'0000"']
-TOKENS = [b"", b"0", b"rue", b"ue", b"e", b"alse", b"lse", b"se", b"ull", b"ll", b"l", b'"another key":0']
+TOKENS = [b"", b"0", b"777777", b'"another name"', b"[]", b"{}", b"rue", b"ue", b"e", b"alse", b"lse", b"se", b"ull", b"ll", b"l",
+          b'"another key":0']
 MEMBERS = [b"", b":0"]
 
 
@@ -78,10 +72,37 @@ def state(text):
     return in_string, bytes(reversed(open_brackets))
 
 
-def goes_on(text):
-    """Whether some JSON text begins with this one, as far as these ends tell."""
+def wholes(text):
+    """JSON texts that begin with this one: their values. There are none only where no JSON text does."""
     in_string, closing = state(text)
     characters = CHARACTERS if in_string else [b""]
     tokens = IN_STRINGS if in_string else TOKENS
-    return any(is_json(text + character + token + member + closing)
-               for character in characters for token in tokens for member in MEMBERS)
+    for character in characters:
+        for token in tokens:
+            for member in MEMBERS:
+                try:
+                    yield parsed(text + character + token + member + closing)
+                except NotJson:
+                    pass
+
+
+def goes_on(text):
+    """Whether some JSON text begins with this one."""
+    return next(wholes(text), NotJson) is not NotJson
+
+
+def start_of(text):
+    """The place where the value, key or opening bracket starts that the text ends with."""
+    in_string = escaped = False
+    start, starts = 0, []
+    for place, byte in enumerate(text):
+        if in_string:
+            in_string, escaped = escaped or byte != 0x22, not escaped and byte == 0x5C
+        elif byte == 0x22:
+            in_string, start = True, place
+        elif byte in b"[{":
+            starts.append(place)
+            start = place
+        elif byte in b"]}":
+            start = starts.pop()
+    return start if text[-1] in b'"[]{}' else re.search(rb"[-+.0-9A-Za-z]*\Z", text).start()

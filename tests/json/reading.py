@@ -72,19 +72,19 @@ class Reading:
         if number <= TOP:
             return number
         self.wrong(value)
-        return 0
+        return None
 
     def id(self, value):
         number = self.integer(value)
-        if not 1 <= number <= 2_147_483_647:
+        if number is not None and not 1 <= number <= 2_147_483_647:
             self.faults.add(35)
         return number
 
     def own_ids(self, values):
         ids = [self.id(value) for value in values]
+        ids = [number for number in ids if number is not None]
         if len(set(ids)) < len(ids):
             self.faults.add(36)
-        return ids
 
     # Objects and tables.
 
@@ -154,7 +154,8 @@ class Reading:
         found = self.members(row["PROCESS_DATA"], ["INSTR_COUNT", "INSTR_COUNT_PER_THREAD", "EDGES"]) or {}
         counts = [self.integer(count) for count in self.array(found.get("INSTR_COUNT_PER_THREAD", []))]
         self.threads += [(process, count) for count in counts]
-        if "INSTR_COUNT" in found and self.integer(found["INSTR_COUNT"]) != sum(counts):
+        total = self.integer(found["INSTR_COUNT"]) if "INSTR_COUNT" in found else None
+        if total is not None and None not in counts and total != sum(counts):
             self.faults.add(39)
         if "EDGES" in found:
             self.process_edges(process, self.table(found["EDGES"], EDGE_COLUMNS))
