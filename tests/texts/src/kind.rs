@@ -57,9 +57,9 @@ impl Kind {
         others.into_iter().chain(faults).collect()
     }
 
-    pub fn all() -> Vec<Kind> {
-        let long = [Kind::One(Fault::TooManyEdges), Kind::Full, Kind::Limit];
-        Kind::short().into_iter().chain(long).collect()
+    /// The others.
+    pub fn long() -> Vec<Kind> {
+        vec![Kind::One(Fault::TooManyEdges), Kind::Full, Kind::Limit]
     }
 }
 

@@ -1,5 +1,5 @@
-//! texts make SEED COUNT   writes as many short texts to standard output, each
-//!                         behind its length
+//! texts make SEED COUNT   writes as many texts to standard output, each behind
+//!                         its length
 //! texts answer            reads such texts from standard input, and prints the
 //!                         second program's lines to each, with an empty line
 //!                         behind them
@@ -10,15 +10,19 @@ use std::process::ExitCode;
 use texts::{batch, text, Kind};
 
 /// Every second text is near a JSON text or is one; the others are of all short
-/// kinds in turn.
+/// kinds in turn, and one in a thousand of the long ones.
 fn make(seed: u64, count: u64) -> Vec<u8> {
     let near = [Kind::NearJson, Kind::AnyJson, Kind::NearJson];
-    let kinds = Kind::short();
+    let (short, long) = (Kind::short(), Kind::long());
     let mut stream = Vec::new();
-    for index in 0..count {
-        let (half, kinds) = (index as usize / 2, [&near[..], &kinds][index as usize % 2]);
-        let kind = kinds[half % kinds.len()];
-        batch::put(&mut stream, &text(kind, seed.wrapping_add(index)));
+    for index in 0..count as usize {
+        let kind = match (index % 1000, index % 2) {
+            (999, _) => long[index / 1000 % long.len()],
+            (_, 0) => near[index / 2 % near.len()],
+            _ => short[index / 2 % short.len()],
+        };
+        let seed = seed.wrapping_add(index as u64);
+        batch::put(&mut stream, &text(kind, seed));
     }
     stream
 }

@@ -28,7 +28,7 @@ fn numbers(kind: Kind, count: u64) -> BTreeMap<u8, u64> {
 
 #[test]
 fn the_same_seed_gives_the_same_text() {
-    for kind in Kind::all() {
+    for kind in [Kind::short(), Kind::long()].concat() {
         assert!(text(kind, 3) == text(kind, 3));
     }
 }
