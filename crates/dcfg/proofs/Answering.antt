@@ -6,10 +6,10 @@ use mathlib.Core.List.{List, _++_}
 use native.Mathlib.Omega.{arith}
 use native.Mathlib.Nat.{le-refl}
 use lib.ListN.{length, getD, take, drop}
-use Rattle.dcfg.specs.Sorting.{Each, Swaps, Rising, Distinct, Sorted, Put, part}
+use Rattle.sorting.specs.Sorting.{Each, Swaps, Rising, Distinct, Sorted, Put, part}
 use Rattle.dcfg.specs.Private.{LeastRepeat, Answered, noPlace}
-use Rattle.dcfg.proofs.Ordering.{same-or-not, below-or-not}
-use Rattle.dcfg.proofs.Swapping.{swaps-length, swaps-distinct, swaps-each}
+use Rattle.sorting.proofs.Ordering.{same-or-not, below-or-not}
+use Rattle.sorting.proofs.Swapping.{swaps-length, swaps-distinct, swaps-each}
 use Rattle.dcfg.proofs.LeastRepeats.{least-one, least-swapped, defined}
 use Rattle.dcfg.proofs.Parts.{length-part, getD-part, part-back, below-back, above-back}
 

@@ -25,7 +25,7 @@ use Rattle.json.specs.Plain.{plainAt}
 use Rattle.dcfg.specs.Names.{columnsOf, numberIn}
 use Rattle.dcfg.specs.Tables.{Header, noColumns, found, withColumn, headerCell, columnsOnce, headerAt}
 use Rattle.dcfg.specs.Private.{stepOf, entryOf, keptOf, Room, Place, Headed}
-use Rattle.dcfg.specs.Sorting.{Each, Rising, part}
+use Rattle.sorting.specs.Sorting.{Each, Rising, part}
 use Rattle.dcfg.proofs.Holding.{Held, held-start, part-empty, settle-ready, held-room, held-call, part-call, held-key, part-kept}
 use Rattle.dcfg.proofs.Parts.{length-part}
 use Rattle.dcfg.proofs.Walking.{Walking, Met, Over-with, walk-start, walk-over, walk-value, walk-go, walk-halt}

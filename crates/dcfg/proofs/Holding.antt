@@ -9,9 +9,9 @@ use lib.ListN.{length, getD, set, take, drop, length-set, length-append, List·g
 use lib.Seq.{take-set-le, take-suc-set, take-take, take-add, length-take-le, drop-append-le, drop-at, getD-at}
 use Rattle.dcfg.specs.Repeated.{First, none, first}
 use Rattle.dcfg.specs.Reading.{grown}
-use Rattle.dcfg.specs.Sorting.{Each, Rising, part}
+use Rattle.sorting.specs.Sorting.{Each, Rising, part}
 use Rattle.dcfg.specs.Private.{Place, countOf, kept}
-use Rattle.dcfg.proofs.Ordering.{below-or-not}
+use Rattle.sorting.proofs.Ordering.{below-or-not}
 use Rattle.dcfg.proofs.Folding.{KeyIn}
 
 -- Parts.

@@ -9,11 +9,11 @@ use native.Mathlib.Nat.{le-refl, eq-or-lt-of-le}
 use borrow.Author.Tests.{eqb-true, eq-eqb}
 use lib.Dec.{eqb}
 use lib.ListN.{length, getD}
-use Rattle.dcfg.specs.Sorting.{Swaps, Rising, Distinct, Sorted}
+use Rattle.sorting.specs.Sorting.{Swaps, Rising, Distinct, Sorted}
 use Rattle.dcfg.specs.Repeated.{same, first, any, repeatedIn}
 use Rattle.dcfg.specs.Private.{noPlace, placeOf, Repeat, LeastRepeat, Lowered}
-use Rattle.dcfg.proofs.Ordering.{never, same-or-not, below-or-not, between}
-use Rattle.dcfg.proofs.Swapping.{swaps-length, swaps-from, swaps-onto}
+use Rattle.sorting.proofs.Ordering.{never, same-or-not, below-or-not, between}
+use Rattle.sorting.proofs.Swapping.{swaps-length, swaps-from, swaps-onto}
 
 -- The tests.
 

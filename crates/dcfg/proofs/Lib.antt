@@ -11,9 +11,6 @@ pub mod Naming
 pub mod Walking
 pub mod Heading
 pub mod Orders
-pub mod Ordering
-pub mod Swapping
-pub mod Heaps
 pub mod LeastRepeats
 pub mod Comparing
 pub mod Parts

@@ -5,7 +5,7 @@ use mathlib.Core.List.{List, _++_}
 use native.Mathlib.Omega.{arith}
 use lib.ListN.{length, getD, take, drop, length-drop}
 use lib.Seq.{take-at, drop-at, drop-drop, length-take-le, getD-take, getD-drop}
-use Rattle.dcfg.specs.Sorting.{part}
+use Rattle.sorting.specs.Sorting.{part}
 
 module _ (a : List ℕ) (base top : ℕ) (bt : base ≤ top) (tl : top ≤ length a) where
   pub length-part : length (part a base top) ≡ top - base

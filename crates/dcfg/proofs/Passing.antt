@@ -11,7 +11,7 @@ use Rattle.dcfg.specs.declared.entries.Entry.the-variants.{Value, Over}
 use Rattle.dcfg.specs.Repeated.{First}
 use Rattle.dcfg.specs.Entries.{Next, value, over, nextIn}
 use Rattle.dcfg.specs.Reading.{Step, go, halt, stop, Fold, fold, grown, after, turn, each, pass}
-use Rattle.dcfg.specs.Sorting.{Each, Rising, part}
+use Rattle.sorting.specs.Sorting.{Each, Rising, part}
 use Rattle.dcfg.specs.Private.{countOf, entryOf, kept, keptOf, Room, Place}
 use Rattle.dcfg.proofs.Folding.{KeyIn, NextIn, next-between, StepIn, Forward, each-again}
 use Rattle.dcfg.proofs.Holding.{Held, held-start, held-key, part-kept, held-call, part-call, held-room, part-empty, held-on, settle-ready}

@@ -11,7 +11,7 @@ use Rattle.json.specs.Plain.{plainAt}
 use Rattle.json.proofs.Tests.{clash}
 use Rattle.dcfg.specs.Repeated.{First, none, first, same, any, repeatedIn, keyAt}
 use Rattle.dcfg.specs.Reading.{Step, halt, Fold, fold, atLast, repeatNumber, unlessRepeated, noted}
-use Rattle.dcfg.specs.Sorting.{Each}
+use Rattle.sorting.specs.Sorting.{Each}
 use Rattle.dcfg.specs.Private.{placeOf, noPlace, Place}
 
 -- What is repeated stands in the group.

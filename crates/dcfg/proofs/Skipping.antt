@@ -12,7 +12,7 @@ use Rattle.dcfg.specs.Repeated.{First}
 use Rattle.dcfg.specs.Entries.{opens}
 use Rattle.dcfg.specs.Reading.{Step, halt, stop, fold, pass, unlessRepeated}
 use Rattle.dcfg.specs.Skipped.{skipped}
-use Rattle.dcfg.specs.Sorting.{part}
+use Rattle.sorting.specs.Sorting.{part}
 use Rattle.dcfg.proofs.Folding.{Forward, opens-inside, skipped-in}
 use Rattle.dcfg.proofs.Passing.{Passing, Ended, Opening}
 

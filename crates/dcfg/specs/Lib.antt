@@ -10,7 +10,6 @@ pub mod Tables
 pub mod Processes
 pub mod Dcfg
 pub mod Order
-pub mod Sorting
 pub mod Private
 pub mod Examples
 pub mod Samples

@@ -13,7 +13,7 @@ use Rattle.dcfg.specs.declared.entries.Entry.{Entry}
 use Rattle.dcfg.specs.declared.entries.Entry.the-variants.{Value, Over}
 use Rattle.dcfg.specs.Repeated.{First, none, first, repeatedIn}
 use Rattle.dcfg.specs.Entries.{Next, value, over}
-use Rattle.dcfg.specs.Sorting.{Swaps, part}
+use Rattle.sorting.specs.Sorting.{Swaps, part}
 use Rattle.refusal.specs.Refusal.{numberOf}
 use Rattle.dcfg.specs.declared.passed.Passed.{Passed}
 use Rattle.dcfg.specs.declared.passed.Passed.the-variants.{To, Refused}

@@ -5,7 +5,7 @@ ghost use Prim.Native.Nat.{_≤_};
 ghost use lib.ListN.{length};
 ghost use Rattle.dcfg.specs.Repeated.{keyAt};
 ghost use Rattle.dcfg.specs.Private.{Place, Lowered, LeastRepeat, Answered};
-ghost use Rattle.dcfg.specs.Sorting.{Each, Sorted, Distinct, Rising, part};
+ghost use Rattle.sorting.specs.Sorting.{Each, Sorted, Distinct, Rising, part};
 use crate::heap::sort;
 use crate::keys::Order;
 use crate::keys::compare;

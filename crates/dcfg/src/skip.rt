@@ -5,7 +5,7 @@ ghost use Prim.Native.Nat.{_≤_};
 ghost use lib.ListN.{length, take};
 ghost use Rattle.dcfg.specs.Reading.{fold, unlessRepeated};
 ghost use Rattle.dcfg.specs.Skipped.{skipped};
-ghost use Rattle.dcfg.specs.Sorting.{Each, Rising, part};
+ghost use Rattle.sorting.specs.Sorting.{Each, Rising, part};
 ghost use Rattle.dcfg.specs.Private.{stepOf, Room, Place};
 use crate::entries::Entry;
 use crate::entries::member;

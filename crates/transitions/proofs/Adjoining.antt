@@ -12,17 +12,17 @@ use lib.ListN.{length, getD}
 use Rattle.refusal.proofs.Cases.{by-lt, by-eq}
 use Rattle.transitions.specs.Table.{Row, codeAt, rowAt, places, rowsFrom, rowsOf, any, badRow, begins, clash, clashes, badTable}
 use Rattle.transitions.specs.Key.{keyAt}
-use Rattle.transitions.specs.Order.{UpTo}
-use Rattle.transitions.specs.Sorting.{Each, exchanged, Swaps, still, swapped, Sorted}
+use Rattle.sorting.specs.Order.{UpTo}
+use Rattle.sorting.specs.Sorting.{Each, exchanged, Swaps, still, swapped, Sorted}
 use Rattle.transitions.specs.View.{Sound, Good}
 use Rattle.transitions.specs.Index.{Run, Pair, Told}
 use Rattle.transitions.specs.Walk.{noMatch, along, ofEdge, matches, matching, pick}
 use Rattle.transitions.proofs.Stepping.{matching-hit, matching-miss}
 use Rattle.transitions.proofs.Choices.{and-true, both-true, or-left, or-right, or-false, or-one}
 use Rattle.transitions.proofs.Coding.{either}
-use Rattle.transitions.proofs.Ordering.{never, upTo-antisym}
+use Rattle.sorting.proofs.Ordering.{never, upTo-antisym}
 use Rattle.transitions.proofs.Placing.{places-good}
-use Rattle.transitions.proofs.Swapping.{Stands, length-exchanged, source, source-in, source-one, swaps-length, swaps-from, swaps-onto, swaps-each}
+use Rattle.sorting.proofs.Swapping.{Stands, length-exchanged, source, source-in, source-one, swaps-length, swaps-from, swaps-onto, swaps-each}
 
 pub begins-up : (l m : List ℕ) → begins l m ≡ true → UpTo l m
 unfolding begins UpTo

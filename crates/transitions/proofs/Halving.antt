@@ -12,13 +12,14 @@ use Rattle.transitions.specs.Table.{rowAt, codeAt, places, rowsFrom, row
 use Rattle.transitions.specs.Walk.{noMatch, along, ofEdge, matches, matching, pick}
 use Rattle.transitions.specs.View.{Sound, Good, Matched}
 use Rattle.transitions.specs.Key.{keyAt}
-use Rattle.transitions.specs.Order.{UpTo, Compared}
+use Rattle.sorting.specs.Order.{UpTo}
+use Rattle.transitions.specs.Order.{Compared}
 use Rattle.transitions.specs.Index.{Run, Halved}
 use Rattle.transitions.specs.declared.order.Order.{Order}
 use Rattle.transitions.specs.declared.order.Order.the-variants.{Less, Same, More}
 use Rattle.transitions.specs.declared.search.Match.the-variants.{At, Nowhere}
 use Rattle.transitions.proofs.Choices.{or-left}
-use Rattle.transitions.proofs.Ordering.{never, upTo-refl, upTo-trans, upTo-antisym}
+use Rattle.sorting.proofs.Ordering.{never, upTo-refl, upTo-trans, upTo-antisym}
 use Rattle.transitions.proofs.Adjoining.{not-true-is, begins-up, between-begins, clash-of, run-long, run-row, row-run, run-good, run-clashes, any-at, any-nowhere, match-key, only-match, no-match}
 use Rattle.transitions.proofs.Stepping.{match-code, for-edge}
 use Rattle.transitions.proofs.Advancing.{matched-at, matched-nowhere}

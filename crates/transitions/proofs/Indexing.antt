@@ -8,10 +8,10 @@ use lib.Seq.{length-take-le, take-at}
 use Rattle.transitions.specs.Table.{places}
 use Rattle.transitions.specs.View.{Sound}
 use Rattle.transitions.specs.Key.{keyAt, Place}
-use Rattle.transitions.specs.Sorting.{Each, Swaps, Sorted, Put}
+use Rattle.sorting.specs.Sorting.{Each, Swaps, Sorted, Put}
 use Rattle.transitions.specs.Index.{Run, Ready, Noting}
 use Rattle.transitions.specs.declared.index.Part.{Part}
-use Rattle.transitions.proofs.Swapping.{swaps-length}
+use Rattle.sorting.proofs.Swapping.{swaps-length}
 use Rattle.transitions.proofs.Placing.{places-end, places-good}
 use Rattle.transitions.proofs.Adjoining.{run-good}
 

@@ -12,7 +12,7 @@ use Rattle.refusal.proofs.Cases.{by-lt}
 use Rattle.transitions.specs.Table.{places}
 use Rattle.transitions.specs.View.{Sound, Good}
 use Rattle.transitions.specs.Key.{keyAt, Place}
-use Rattle.transitions.specs.Sorting.{Each, Put}
+use Rattle.sorting.specs.Sorting.{Each, Put}
 use Rattle.transitions.specs.Index.{Pair, Told, Noting, NotedTwo, Blocked, frontOf, restOf, heldOf}
 use Rattle.transitions.specs.declared.index.Part.{Part}
 use Rattle.transitions.specs.declared.parts.Block.{Block}

@@ -12,7 +12,7 @@ use lib.Seq.{length-take-le, take-all, take-at, drop-at, take-suc-set, append-sn
 use Rattle.refusal.proofs.Cases.{by-lt}
 use Rattle.transitions.specs.Table.{Row, codeLength, listAt, listLength, behind, codeAt, nextAt, rowAt, placesFrom, places, rowsFrom, any, noBit, badRow}
 use Rattle.transitions.specs.View.{Sound, Good}
-use Rattle.transitions.specs.Sorting.{Each}
+use Rattle.sorting.specs.Sorting.{Each}
 use Rattle.transitions.proofs.Choices.{or-left, or-right, or-neither, or-false, any-miss}
 
 places-one : (n : ℕ) (t : List ℕ) (p : ℕ) → p < length t → placesFrom (suc n) t p ≡ p ∷ placesFrom n t (behind t p)

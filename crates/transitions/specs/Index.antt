@@ -7,8 +7,8 @@ use mathlib.Core.Bool.{Bool, true, false}
 use Rattle.transitions.specs.Table.{rowAt, places, rowsOf, clash, clashes}
 use Rattle.transitions.specs.View.{Sound}
 use Rattle.transitions.specs.Key.{keyAt}
-use Rattle.transitions.specs.Order.{UpTo}
-use Rattle.transitions.specs.Sorting.{Swaps, Sorted}
+use Rattle.sorting.specs.Order.{UpTo}
+use Rattle.sorting.specs.Sorting.{Swaps, Sorted}
 use Rattle.transitions.specs.declared.index.Part.{Part}
 use Rattle.transitions.specs.declared.parts.Block.{Block}
 use Rattle.transitions.specs.declared.parts.Verdict.{Verdict}

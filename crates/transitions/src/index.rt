@@ -7,7 +7,7 @@ ghost use lib.ListN.{length};
 ghost use Rattle.transitions.specs.View.{Sound};
 ghost use Rattle.transitions.specs.Index.{Noting, Told, Run, Ready, Halved};
 ghost use Rattle.transitions.specs.Key.{keyAt, Place};
-ghost use Rattle.transitions.specs.Sorting.{Each, Sorted};
+ghost use Rattle.sorting.specs.Sorting.{Each, Sorted};
 use crate::faults::clashing;
 use crate::heap::sort;
 use crate::order::Order;

@@ -1,7 +1,8 @@
 // The order of rows: by the edge, then by the code, then by the place.
 ghost use mathlib.Core.List.{_∷_};
 ghost use Rattle.transitions.specs.Key.{keyAt, Place};
-ghost use Rattle.transitions.specs.Order.{Compared, Ordered};
+ghost use Rattle.sorting.specs.Order.{Ordered};
+ghost use Rattle.transitions.specs.Order.{Compared};
 use crate::codes::wide;
 use crate::rows::code;
 

@@ -4,7 +4,7 @@ ghost use Prim.Native.Nat.{_<_, _≤_};
 ghost use lib.ListN.{length};
 ghost use Rattle.transitions.specs.Table.{rowsOf, clashes};
 ghost use Rattle.transitions.specs.Key.{Place};
-ghost use Rattle.transitions.specs.Sorting.{Each};
+ghost use Rattle.sorting.specs.Sorting.{Each};
 ghost use Rattle.transitions.specs.View.{Sound};
 ghost use Rattle.transitions.specs.Index.{Told, NotedTwo, Blocked, Crossed, Tested};
 use crate::heap::sort;

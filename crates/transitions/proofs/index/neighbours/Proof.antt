@@ -1,7 +1,7 @@
 -- `transitions::index::neighbours` meets its contract: neighbour by neighbour. Assumes nothing.
 use Rattle.transitions.specs.Key.{Place}
 use Rattle.transitions.proofs.Adjoining.{Apart, all-apart, apart-more}
-use Rattle.transitions.proofs.Ordering.{never}
+use Rattle.sorting.proofs.Ordering.{never}
 use mathlib.Core.List.{List, [], _∷_, _++_}
 use lib.ListN.{length, getD, take, drop, length-append, length-drop, length-take}
 use Prim.Native.Nat.{ℕ, _+_, _-_, _/_, _<_, _≤_}

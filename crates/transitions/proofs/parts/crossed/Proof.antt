@@ -2,7 +2,7 @@
 use Rattle.transitions.specs.Index.{Pair, Blocked}
 use Rattle.transitions.specs.Table.{places}
 use Rattle.transitions.proofs.Parting.{Crossing, crossing-start, crossing-found, crossing-turn, crossing-end, part-back}
-use Rattle.transitions.proofs.Ordering.{never}
+use Rattle.sorting.proofs.Ordering.{never}
 use lib.Seq.{length-take-le}
 use mathlib.Core.List.{List, [], _∷_, _++_}
 use lib.ListN.{length, getD, take, drop, length-append, length-drop, length-take}

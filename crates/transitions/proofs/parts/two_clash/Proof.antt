@@ -1,7 +1,7 @@
 -- `transitions::parts::two_clash` meets its contract: the rows sorted, then neighbours. Assumes nothing.
 use Rattle.transitions.specs.Key.{Place}
 use Rattle.transitions.proofs.Parting.{two-told}
-use Rattle.transitions.proofs.Swapping.{swaps-each}
+use Rattle.sorting.proofs.Swapping.{swaps-each}
 use native.Mathlib.Nat.{le-refl}
 use mathlib.Core.List.{List, [], _∷_, _++_}
 use lib.ListN.{length, getD, take, drop, length-append, length-drop, length-take}

@@ -1,6 +1,6 @@
 -- `transitions::search::edge_at` meets its contract: by the row that stands there. Assumes nothing.
 use Rattle.transitions.proofs.Adjoining.{run-good}
-use Rattle.transitions.proofs.Ordering.{never}
+use Rattle.sorting.proofs.Ordering.{never}
 use mathlib.Core.List.{List, [], _∷_, _++_}
 use lib.ListN.{length, getD, take, drop}
 use Prim.Native.Nat.{ℕ, _+_, _-_, _<_, _≤_}

@@ -1,7 +1,7 @@
 -- `transitions::search::last_match` meets its contract: no other row can match. Assumes nothing.
 use Rattle.transitions.proofs.Halving.{matched-nothing, matched-last}
 use Rattle.transitions.proofs.Adjoining.{run-good}
-use Rattle.transitions.proofs.Ordering.{never}
+use Rattle.sorting.proofs.Ordering.{never}
 use mathlib.Core.List.{List, [], _∷_, _++_}
 use lib.ListN.{length, getD, take, drop}
 use Prim.Native.Nat.{ℕ, _+_, _-_, _<_, _≤_}
