@@ -5,9 +5,13 @@ ghost use mathlib.Core.List.{List};
 ghost use Prim.Native.Nat.{ℕ, _≤_};
 ghost use lib.ListN.{length};
 ghost use Rattle.replay.specs.Row.{cells};
-ghost use Rattle.replay.specs.State.{viewed, goingSound, stateSound, tableSound};
+ghost use Rattle.replay.specs.State.{viewed, goingSound, stateSound, tableSound, sayingOf, told, Advanced, Blank, Ended, Reportable, reportOf, EndDoes};
 ghost use Rattle.fdr.specs.Walk.{inFront};
-ghost use Rattle.replay.specs.Stream.{fresh};
+ghost use Rattle.replay.specs.Stream.{fresh, stop, endTold};
+ghost use Rattle.replay.specs.Replay.{refusal, verdictOf};
+ghost use Rattle.replay.specs.Sound.{ofStream};
+ghost use Rattle.refusal.specs.Refusal.{numberOf};
+ghost use Rattle.refusal.specs.Sets.{isIn};
 use crate::Answer;
 use crate::check::all_below;
 use crate::check::counts_sound;
@@ -18,10 +22,14 @@ use crate::check_rows::entries_within;
 use crate::check_rows::ids_rise;
 use crate::check_rows::rows_sound;
 use crate::check_rows::still_open;
+use crate::row::CELLS;
+use crate::table::clear;
+use crate::table::clear_behind;
 use fdr::form::Form;
 use fdr::grammar::Stage;
 use fdr::grammar::Threads;
 use fdr::reader::family_size;
+use refusal::Refusal;
 
 // What a call says: a stream that goes on asks for more.
 pub enum Reply {
@@ -134,37 +142,142 @@ fn table_sound(x: Stream, table: &[u64]) -> bool
     ids_rise(&x.index, table, x.rows)
 }
 
+// A state with nothing in it but these: in front of the first byte, or ended.
+fn blank(form: Form, offset: u64, over: bool, answer: Answer) -> Stream
+    ensures { λ r. ⌜ Blank form offset over answer r ⌝ }
+{
+    Stream {
+        form,
+        offset,
+        buffer_size: 0,
+        skip: 0,
+        held: [0u8; 32],
+        count: 0,
+        stage: Stage::Between,
+        threads: Threads::Unseen,
+        row: [0u16; 256],
+        since: [0u64; 256],
+        depth: 0,
+        clock: 0,
+        rows: 0,
+        records: 0,
+        buffers: 0,
+        index: [0u16; 1024],
+        cache: [0u16; 4096],
+        over,
+        answer,
+    }
+}
+
+// An ended stream, with its answer.
+fn ended(form: Form, offset: u64, answer: Answer) -> Fed
+    ensures { λ r. ⌜ Ended offset (verdictOf answer) r ⌝ }
+{
+    Fed {
+        stream: blank(form, offset, true, answer),
+        reply: Reply::Told(answer),
+    }
+}
+
+// A call that changes nothing.
+fn stay(stream: Stream, why: Refusal) -> Fed
+    ensures { λ r. ⌜ r .stream ≡ stream ⌝ }
+    ensures { λ r. ⌜ sayingOf (r .reply) ≡ told (refusal (numberOf why) 0) ⌝ }
+{
+    Fed {
+        stream,
+        reply: Reply::Told(Answer::Refused {
+            refusal: why,
+            place: 0,
+        }),
+    }
+}
+
 impl Stream {
+    // The stream is refused: no row is left.
+    fn refuse(self, table: &mut [u64], why: Refusal, place: u64) -> Fed
+        requires { ⌜ (cells ≤ length (now table)) × (isIn (numberOf why) ofStream ≡ true) × (place ≤ self .offset) ⌝ }
+        ensures { λ r. ⌜ Advanced (stop (numberOf why) place) (now (table .entry)) r (now (table .exit)) ⌝ }
+    {
+        clear(table);
+        let form = self.form;
+        let answer = Answer::Refused {
+            refusal: why,
+            place,
+        };
+        ended(form, self.offset, answer)
+    }
+
+    // The stream is over: what it came to.
+    fn report(self, table: &mut [u64]) -> Fed
+        requires { ⌜ Reportable self (now table) ⌝ }
+        ensures { λ r. ⌜ Advanced (reportOf self (now (table .entry))) (now (table .entry)) r (now (table .exit)) ⌝ }
+    {
+        clear_behind(table, self.rows);
+        let form = self.form;
+        let answer = Answer::Report {
+            rows: self.rows as u64,
+            buffers: self.buffers,
+            records: self.records,
+            open: self.depth as u64,
+        };
+        ended(form, self.offset, answer)
+    }
+
+    // The end of a stream that is sound and goes on.
+    fn told_end(self, table: &mut [u64]) -> Fed
+        requires { ⌜ (stateSound self ≡ true) × (self .over ≡ false) × (cells ≤ length (now table)) ⌝ }
+        ensures { λ r. ⌜ Advanced (endTold (viewed self (now (table .entry)))) (now (table .entry)) r (now (table .exit)) ⌝ }
+    {
+        if self.offset < 32 {
+            return self.refuse(table, Refusal::LogLength, 0);
+        }
+        let stage = self.stage;
+        if in_front(stage) {
+            if self.skip == self.count {
+                return self.report(table);
+            }
+            return self.refuse(table, Refusal::BufferSize, 0);
+        }
+        self.refuse(table, Refusal::BufferSize, 0)
+    }
+
+    // Tells the end.
+    pub fn end(self, table: &mut [u64]) -> Fed
+        ensures { λ r. ⌜ EndDoes self (now (table .entry)) r (now (table .exit)) ⌝ }
+    {
+        let sound = state_sound(self);
+        if !sound {
+            return stay(self, Refusal::Unsound);
+        }
+        if self.over {
+            let answer = self.answer;
+            return Fed {
+                stream: self,
+                reply: Reply::Told(answer),
+            };
+        }
+        if table.len() < CELLS {
+            return stay(self, Refusal::ShortTable);
+        }
+        let rows = table_sound(self, table);
+        if !rows {
+            return stay(self, Refusal::Unsound);
+        }
+        self.told_end(table)
+    }
+
     // In front of the first byte of a log.
     pub fn start(form: Form) -> Self
         ensures { λ r. ⌜ ((table : List ℕ) → viewed r table ≡ fresh form) ⌝ }
         ensures { λ r. ⌜ stateSound r ≡ true ⌝ }
     {
-        Self {
-            form,
-            offset: 0,
-            buffer_size: 0,
-            skip: 0,
-            held: [0u8; 32],
-            count: 0,
-            stage: Stage::Between,
-            threads: Threads::Unseen,
-            row: [0u16; 256],
-            since: [0u64; 256],
-            depth: 0,
-            clock: 0,
+        let none = Answer::Report {
             rows: 0,
-            records: 0,
             buffers: 0,
-            index: [0u16; 1024],
-            cache: [0u16; 4096],
-            over: false,
-            answer: Answer::Report {
-                rows: 0,
-                buffers: 0,
-                records: 0,
-                open: 0,
-            },
-        }
+            records: 0,
+            open: 0,
+        };
+        blank(form, 0, false, none)
     }
 }

@@ -3,8 +3,8 @@ ghost use mathlib.Core.Path.{_≡_};
 ghost use mathlib.Core.List.{[]};
 ghost use Prim.Native.Nat.{_+_, _*_, _^_, _<_, _≤_};
 ghost use lib.ListN.{length, getD, set};
-ghost use Rattle.replay.specs.Row.{width, cells, tableOf};
-ghost use Rattle.replay.specs.Private.{Closable, Closed};
+ghost use Rattle.replay.specs.Row.{width, mostRows, cells, tableOf};
+ghost use Rattle.replay.specs.Private.{rowsIn, Closable, Closed};
 use crate::row::BACKWARD;
 use crate::row::CELLS;
 use crate::row::CLOSED;
@@ -19,6 +19,18 @@ pub fn clear(table: &mut [u64])
     ensures { λ _. ⌜ now (table .exit) ≡ tableOf [] (now (table .entry)) ⌝ }
 {
     let mut i: usize = 0;
+    while i < CELLS {
+        table[i] = 0;
+        i += 1;
+    }
+}
+
+// Clears what stands behind so many rows.
+pub fn clear_behind(table: &mut [u64], rows: usize)
+    requires { ⌜ (rows ≤ mostRows) × (cells ≤ length (now table)) ⌝ }
+    ensures { λ _. ⌜ now (table .exit) ≡ tableOf (rowsIn rows (now (table .entry))) (now (table .entry)) ⌝ }
+{
+    let mut i: usize = rows * WIDTH;
     while i < CELLS {
         table[i] = 0;
         i += 1;

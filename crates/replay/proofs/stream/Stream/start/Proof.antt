@@ -1,12 +1,14 @@
 -- `replay::stream::Stream::start` meets its contract: no byte is in. Assumes nothing.
-use mathlib.Core.Path.{refl}
-use Rattle.replay.specs.State.{viewed, stateSound}
+use borrow.Author.Needs.{needs}
+use Rattle.replay.proofs.CheckingState.{blank-fresh, blank-sound}
 use Rattle.replay.proofs.stream.Stream.start.Statement.{statement}
 use Rattle.replay.proofs.stream.Stream.start.Tie as tie
 
+blank-requires : tie.Need-blank-requires
+blank-requires c κs = search needs
+
 returns : tie.Need-returns
-unfolding viewed stateSound
-returns c = (λ t. refl, refl)
+returns c = (blank-fresh _ _ _ (c .blank .ensures), blank-sound _ _ _ (c .blank .ensures))
 
 pub start-spec : {M : Type 1} → statement M
-start-spec = tie.close (tie.spec returns)
+start-spec = tie.close (tie.spec blank-requires returns)
