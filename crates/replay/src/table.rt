@@ -14,17 +14,6 @@ use crate::row::WIDTH;
 // The largest number, of ticks and of the clock.
 pub const LARGEST: u64 = 18446744073709551615;
 
-pub fn clear(table: &mut [u64])
-    requires { ⌜ cells ≤ length (now table) ⌝ }
-    ensures { λ _. ⌜ now (table .exit) ≡ tableOf [] (now (table .entry)) ⌝ }
-{
-    let mut i: usize = 0;
-    while i < CELLS {
-        table[i] = 0;
-        i += 1;
-    }
-}
-
 // Clears what stands behind so many rows.
 pub fn clear_behind(table: &mut [u64], rows: usize)
     requires { ⌜ (rows ≤ mostRows) × (cells ≤ length (now table)) ⌝ }
@@ -35,6 +24,13 @@ pub fn clear_behind(table: &mut [u64], rows: usize)
         table[i] = 0;
         i += 1;
     }
+}
+
+pub fn clear(table: &mut [u64])
+    requires { ⌜ cells ≤ length (now table) ⌝ }
+    ensures { λ _. ⌜ now (table .exit) ≡ tableOf [] (now (table .entry)) ⌝ }
+{
+    clear_behind(table, 0);
 }
 
 // Adds to a column of a row.
