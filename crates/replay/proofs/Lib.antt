@@ -18,3 +18,4 @@ pub mod Keeping
 pub mod Checking
 pub mod CheckingRows
 pub mod CheckingState
+pub mod Viewing
