@@ -13,6 +13,7 @@ pub mod Stepping
 pub mod TailExits
 pub mod Running
 pub mod Leading
+pub mod Taking
 pub mod CallsKept
 pub mod Keeping
 pub mod Checking

@@ -14,7 +14,7 @@ use Rattle.fdr.specs.declared.form.Form.{Form}
 use Rattle.fdr.proofs.Numbers.{Agree, number-agree}
 use Rattle.fdr.proofs.Opening.{sizesRight, too-short, other-version, other-type, no-buffers, opens}
 use Rattle.replay.specs.Stream.{Stream, heading, going, fresh, stop, behindHeader, headed, advanced, take1, fed, endTold}
-use Rattle.stream.proofs.Feeding.{fed-ended}
+use Rattle.replay.proofs.Taking.{fed-ended}
 use Rattle.stream.proofs.Heading.{up-to, header-fed}
 
 module _ (f : Form) where

@@ -12,20 +12,9 @@ use Rattle.fdr.specs.Walk.{Stepping, over, onward, halted, inFront, judged}
 use Rattle.fdr.specs.declared.form.Form.{Form}
 use Rattle.fdr.specs.declared.record.Record.{Record}
 use Rattle.fdr.specs.declared.walk.Position.{Position}
-use Rattle.replay.specs.Row.{Row}
 use Rattle.replay.specs.Step.{Outcome, went, stopped, step}
-use Rattle.replay.specs.Replay.{Verdict}
 use Rattle.replay.specs.Stream.{Midway, Stream, heading, going, ended, fresh, stop, bufferEnd, settled, stepped, taken, due, received, counting, holding, advanced, behindHeader, headed, take1, fed, offsetOf, readBy, reads, joinAll}
-
-pub fed-append : (x : Stream) (a b : List ℕ) → fed x (a ++ b) ≡ fed (fed x a) b
-unfolding fed
-fed-append x [] b = refl
-fed-append x (c ∷ a) b = fed-append (take1 x c) a b
-
-pub fed-ended : (v : Verdict) (rows : List Row) (bytes : List ℕ) → fed (ended v rows) bytes ≡ ended v rows
-unfolding take1 fed
-fed-ended v rows [] = refl
-fed-ended v rows (b ∷ bytes) = fed-ended v rows bytes
+use Rattle.replay.proofs.Taking.{fed-append, fed-ended}
 
 -- A byte takes the offset at most one on.
 settled-offset : (m : Midway) → offsetOf (settled m) ≤ m .offset

@@ -1,5 +1,5 @@
 pub mod Feeding
-pub mod Taking
+pub mod Judging
 pub mod Heading
 pub mod Failing
 pub mod Whole

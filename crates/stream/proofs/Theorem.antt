@@ -21,8 +21,8 @@ use Rattle.replay.specs.Row.{Row, cells, tableOf}
 use Rattle.replay.specs.Replay.{Verdict, report, refusal, Result, meaning, answer, tableAfter, accepted, refused, replayed, recordsIn, buffersIn, told, rowsOf}
 use Rattle.replay.specs.Stream.{Stream, going, ended, fresh, stop, behindHeader, fed, endTold, reads, joinAll, wholeTrace, whole}
 use Rattle.stream.specs.Promise.{HoweverCut, AnyPrefix, FirstJudged, HeaderFails, AsReplay}
-use Rattle.stream.proofs.Feeding.{fed-append, fed-ended, reads-fed}
-use Rattle.stream.proofs.Taking.{mid, settled-front}
+use Rattle.replay.proofs.Taking.{fed-append, fed-ended, mid, settled-front}
+use Rattle.stream.proofs.Feeding.{reads-fed}
 use Rattle.stream.proofs.Whole.{toldWith, Inside, from-inside}
 use Rattle.stream.proofs.Failing.{failing-fed}
 use Rattle.stream.proofs.Heading.{Opens, opened, Sizes, sizes, header-fed}

@@ -28,9 +28,9 @@ use Rattle.replay.specs.Row.{Row}
 use Rattle.replay.specs.Step.{State, Outcome, went, stopped, step}
 use Rattle.replay.specs.Replay.{Verdict, report, refusal, Result, accepted, refused, replayed, recordsIn, buffersIn, buffersOf, rowsOf}
 use Rattle.replay.specs.Stream.{Midway, Stream, going, ended, stop, bufferEnd, settled, stepped, taken, fed, endTold}
-use Rattle.stream.proofs.Feeding.{fed-ended}
 use Rattle.replay.proofs.Leading.{Led, led, next-tested}
-use Rattle.stream.proofs.Taking.{mid, settled-on, settled-front, settled-out, Judged, width, record-fed, skipped}
+use Rattle.replay.proofs.Taking.{fed-ended, mid, settled-on, settled-front, settled-out, record-fed, skipped}
+use Rattle.stream.proofs.Judging.{Judged, width}
 
 -- What a trace gives, with so many records and buffers before it.
 abbrev pub toldWith : ℕ → ℕ → Result → Trace → Verdict
