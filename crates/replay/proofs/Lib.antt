@@ -20,3 +20,6 @@ pub mod Checking
 pub mod CheckingRows
 pub mod CheckingState
 pub mod Viewing
+pub mod Shifting
+pub mod Weighing
+pub mod Filling

@@ -9,3 +9,5 @@ pub mod Private
 pub mod Stream
 pub mod Sound
 pub mod State
+pub mod Feeding
+pub mod Weighing

@@ -71,7 +71,7 @@ pub struct Fed {
     pub reply: Reply,
 }
 
-fn in_front(stage: Stage) -> bool
+pub fn in_front(stage: Stage) -> bool
     ensures { λ r. ⌜ r ≡ inFront stage ⌝ }
 {
     if let Stage::Between = stage {
