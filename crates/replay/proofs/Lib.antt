@@ -19,7 +19,10 @@ pub mod Keeping
 pub mod Checking
 pub mod CheckingRows
 pub mod CheckingState
+pub mod Pigeonhole
+pub mod Ordering
 pub mod Viewing
 pub mod Shifting
 pub mod Weighing
 pub mod Filling
+pub mod Exactly

@@ -11,3 +11,4 @@ pub mod Sound
 pub mod State
 pub mod Feeding
 pub mod Weighing
+pub mod Exact
