@@ -1,6 +1,6 @@
 -- `replay_stdin::main` meets its contract: what was read lies in the buffer. Assumes nothing.
-use Rattle.replay_stdin.specs.declared.Input.{Input}
-use Rattle.replay_stdin.specs.Private.{Within}
+use Rattle.console.specs.declared.input.Input.{Input}
+use Rattle.console.specs.Input.{Within}
 use lib.Seq.{length-take-le}
 use lib.ListN.{length}
 use Prim.Native.Nat.{_≤_}

@@ -1,6 +1,6 @@
 -- `replay_stdin::read_all` meets its contract: each read stays within what is left of the buffer, and takes some of it. Assumes nothing.
-use Rattle.replay_stdin.specs.declared.Input.{Input}
-use Rattle.replay_stdin.specs.Private.{Within}
+use Rattle.console.specs.declared.input.Input.{Input}
+use Rattle.console.specs.Input.{Within}
 use borrow.Rule.Slice.PartMut.{putMid, same-len-mid}
 use borrow.Author.Needs.{needs}
 use lib.ListN.{length, length-take, length-drop}

@@ -1,9 +1,9 @@
--- `replay_stdin::print_rows` meets its contract: no row past the last is printed. Assumes nothing.
+-- `console::lines::print_rows` meets its contract: no row past the last is printed. Assumes nothing.
 use borrow.Author.Needs.{needs}
 use Prim.Native.Nat.{_-_, _≤_}
 use Rattle.replay.specs.Row.{mostRows}
-use Rattle.replay_stdin.proofs.print_rows.Statement.{statement}
-use Rattle.replay_stdin.proofs.print_rows.Tie as tie
+use Rattle.console.proofs.lines.print_rows.Statement.{statement}
+use Rattle.console.proofs.lines.print_rows.Tie as tie
 
 abbrev Inv-loop : tie.InvT-loop
 Inv-loop table rows row₀ row = row ≤ mostRows

@@ -1,9 +1,9 @@
--- `replay_stdin::print_row` meets its contract: a row lies in the table. Assumes nothing.
+-- `console::lines::print_row` meets its contract: a row lies in the table. Assumes nothing.
 use borrow.Author.Needs.{needs}
 use Prim.Native.Nat.{_-_, _<_}
 use Rattle.replay.specs.Row.{width}
-use Rattle.replay_stdin.proofs.print_row.Statement.{statement}
-use Rattle.replay_stdin.proofs.print_row.Tie as tie
+use Rattle.console.proofs.lines.print_row.Statement.{statement}
+use Rattle.console.proofs.lines.print_row.Tie as tie
 
 abbrev Inv-loop : tie.InvT-loop
 Inv-loop table row column₀ t4 t5 column = column < width
