@@ -26,3 +26,4 @@ pub mod Shifting
 pub mod Weighing
 pub mod Filling
 pub mod Exactly
+pub mod Further
