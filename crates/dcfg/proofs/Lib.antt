@@ -10,6 +10,7 @@ pub mod Counting
 pub mod Naming
 pub mod Walking
 pub mod Heading
+pub mod Knowing
 pub mod Orders
 pub mod LeastRepeats
 pub mod Comparing

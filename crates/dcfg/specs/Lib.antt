@@ -11,5 +11,6 @@ pub mod Processes
 pub mod Dcfg
 pub mod Order
 pub mod Private
+pub mod Lent
 pub mod Examples
 pub mod Samples

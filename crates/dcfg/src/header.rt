@@ -51,7 +51,7 @@ pub fn header(text: &[u8], at: usize, table: usize, keys: &mut [u32], top: usize
     loop {
         match member(text, at, from, keys, n) {
             Entry::Over(read, _) => {
-                let out = settle(text, keys, top, n, told(read));
+                let out = settle(text, false, keys, top, n, told(read));
                 return Heading { out, columns };
             }
             Entry::Value(place, _) => {
@@ -65,7 +65,7 @@ pub fn header(text: &[u8], at: usize, table: usize, keys: &mut [u32], top: usize
                         columns = found(columns, k, n - top);
                     }
                     Passed::Refused(_, _) => {
-                        let out = settle(text, keys, top, n, cell);
+                        let out = settle(text, false, keys, top, n, cell);
                         return Heading { out, columns };
                     }
                 }

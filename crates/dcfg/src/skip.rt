@@ -1,9 +1,9 @@
 // A value that is skipped, whatever it is.
 ghost use mathlib.Core.Path.{_≡_};
-ghost use mathlib.Core.Bool.{false};
 ghost use Prim.Native.Nat.{_≤_};
 ghost use lib.ListN.{length, take};
-ghost use Rattle.dcfg.specs.Reading.{fold, unlessRepeated};
+ghost use Rattle.refusal.specs.Refusal.{numberOf};
+ghost use Rattle.dcfg.specs.Reading.{fold, repeatNumber, unlessRepeated};
 ghost use Rattle.dcfg.specs.Skipped.{skipped};
 ghost use Rattle.sorting.specs.Sorting.{Each, Rising, part};
 ghost use Rattle.dcfg.specs.Private.{stepOf, Room, Place};
@@ -19,13 +19,30 @@ use json::bytes::byte;
 use json::plain::plain;
 use refusal::Refusal;
 
-// What ended the reading of an object, unless one of the keys from `base` to `top` is repeated.
-pub fn settle(text: &[u8], keys: &mut [u32], base: usize, top: usize, out: Passed) -> Passed
+fn repeated(ids: bool) -> Refusal
+    ensures { λ r. ⌜ numberOf r ≡ repeatNumber ids ⌝ }
+{
+    if ids {
+        Refusal::RepeatedId
+    } else {
+        Refusal::RepeatedName
+    }
+}
+
+// What ended the reading, unless one of the keys, or ids, from `base` to `top` is repeated.
+pub fn settle(
+    text: &[u8],
+    ids: bool,
+    keys: &mut [u32],
+    base: usize,
+    top: usize,
+    out: Passed,
+) -> Passed
     requires { ⌜ (length (now text) ≤ 1048576) × (base ≤ top) × (top ≤ length (now keys)) ⌝ }
     requires { ⌜ Rising (part (now keys) base top) × Each (Place (now text)) (part (now keys) base top) ⌝ }
-    ensures { λ r. ⌜ (stepOf r ≡ unlessRepeated (now (text .entry)) false (fold (stepOf out) (part (now (keys .entry)) base top))) × (take base (now (keys .exit)) ≡ take base (now (keys .entry))) ⌝ }
+    ensures { λ r. ⌜ (stepOf r ≡ unlessRepeated (now (text .entry)) ids (fold (stepOf out) (part (now (keys .entry)) base top))) × (take base (now (keys .exit)) ≡ take base (now (keys .entry))) ⌝ }
 {
-    let first = first_repeat(text, false, keys, base, top);
+    let first = first_repeat(text, ids, keys, base, top);
     if first == NONE {
         return out;
     }
@@ -33,7 +50,7 @@ pub fn settle(text: &[u8], keys: &mut [u32], base: usize, top: usize, out: Passe
     match plain(text, at) {
         Read::At(next) => {
             let last = next - 1;
-            Passed::Refused(Refusal::RepeatedName, last)
+            Passed::Refused(repeated(ids), last)
         }
         Read::No(place) => Passed::Refused(Refusal::NotJson, place),
     }
@@ -55,7 +72,7 @@ pub fn skip(text: &[u8], at: usize, left: u32, keys: &mut [u32], top: usize) -> 
     loop {
         match member(text, at, from, keys, n) {
             Entry::Over(out, m) => {
-                return settle(text, keys, top, m, told(out));
+                return settle(text, false, keys, top, m, told(out));
             }
             Entry::Value(value, m) => {
                 n = m;
@@ -65,7 +82,7 @@ pub fn skip(text: &[u8], at: usize, left: u32, keys: &mut [u32], top: usize) -> 
                         from = next;
                     }
                     Passed::Refused(_, _) => {
-                        return settle(text, keys, top, n, out);
+                        return settle(text, false, keys, top, n, out);
                     }
                 }
             }

@@ -49,7 +49,7 @@ same-length-2 : tie.Need-same-length-2 Inv-loop μ-loop
 same-length-2 c = search needs
 
 returns-2 : tie.Need-returns-2 Inv-loop μ-loop
-returns-2 c = over-ends (c .before .before .before .before .before .before .before .before .before .before .before .before .before .before .before .before .before .args .table) (was (c .before .before .before .before .before .before .before .before .before .before .before .before .before .before .byte .ensures) (c .before .before .before .before .before .before .before .before .before .before .before .before .before .if1 .left)) (c .before .before .before .before .before .before .before .before .before .before .before .before .before .before .before .before .before .pre) (c .before .before .before .before .before .before .before .before .before .before .before .before .loop .inv) (c .before .before .before .before .before .before .before .before .before .before .member .ensures .0) (c .before .before .before .before .before .before .before .before .before .before .member .ensures .1) (c .before .before .before .before .before .before .read .given .1) (c .before .before .settle .last .1 .0) (c .before .before .settle .ensures .0) (c .before .before .before .told .ensures) (c .before .before .settle .ensures .1)
+returns-2 c = over-ends (c .before .before .before .before .before .before .before .before .before .before .before .before .before .before .before .before .before .args .table) (was (c .before .before .before .before .before .before .before .before .before .before .before .before .before .before .byte .ensures) (c .before .before .before .before .before .before .before .before .before .before .before .before .before .if1 .left)) (c .before .before .before .before .before .before .before .before .before .before .before .before .before .before .before .before .before .pre) (c .before .before .before .before .before .before .before .before .before .before .before .before .loop .inv) (c .before .before .before .before .before .before .before .before .before .before .member .ensures .0) (c .before .before .before .before .before .before .before .before .before .before .member .ensures .1) (c .before .before .before .before .before .before .read .given .1) (c .before .before .settle .last .1 .1 .0) (c .before .before .settle .ensures .0) (c .before .before .before .told .ensures) (c .before .before .settle .ensures .1)
 
 enum-known-place : tie.Need-enum-known-place Inv-loop μ-loop
 enum-known-place c = search needs
@@ -97,7 +97,7 @@ same-length-3 : tie.Need-same-length-3 Inv-loop μ-loop
 same-length-3 c = search needs
 
 returns-3 : tie.Need-returns-3 Inv-loop μ-loop
-returns-3 c = halt-ends (c .before .before .before .before .before .before .before .before .before .before .before .before .before .before .before .before .before .before .before .before .before .before .args .table) (was (c .before .before .before .before .before .before .before .before .before .before .before .before .before .before .before .before .before .before .before .byte .ensures) (c .before .before .before .before .before .before .before .before .before .before .before .before .before .before .before .before .before .before .if1 .left)) (c .before .before .before .before .before .before .before .before .before .before .before .before .before .before .before .before .before .before .before .before .before .before .pre) (c .before .before .before .before .before .before .before .before .before .before .before .before .before .before .before .before .before .loop .inv) (c .before .before .before .before .before .before .before .before .before .before .before .before .before .before .before .member .ensures .0) (c .before .before .before .before .before .before .before .before .before .before .before .before .before .before .before .member .ensures .1) (c .before .before .before .before .before .before .before .before .before .before .before .place .given .1) (c .before .before .before .before .before .before .before .before .a-string .result) (c .before .before .before .before .before .before .before .before .a-string .ensures .0) (c .before .before .before .before .before .before .before .before .a-string .last .1 .1 .0) (c .before .before .before .before .before .before .before .before .a-string .kept .1 .1 .0) (c .before .before .before .before .before .before .before .before .a-string .ensures .1) (c .before .before .before .before .enum-told .given .1) (c .before .before .settle2 .last .1 .0) (c .before .before .settle2 .ensures .0) (c .before .before .settle2 .ensures .1)
+returns-3 c = halt-ends (c .before .before .before .before .before .before .before .before .before .before .before .before .before .before .before .before .before .before .before .before .before .before .args .table) (was (c .before .before .before .before .before .before .before .before .before .before .before .before .before .before .before .before .before .before .before .byte .ensures) (c .before .before .before .before .before .before .before .before .before .before .before .before .before .before .before .before .before .before .if1 .left)) (c .before .before .before .before .before .before .before .before .before .before .before .before .before .before .before .before .before .before .before .before .before .before .pre) (c .before .before .before .before .before .before .before .before .before .before .before .before .before .before .before .before .before .loop .inv) (c .before .before .before .before .before .before .before .before .before .before .before .before .before .before .before .member .ensures .0) (c .before .before .before .before .before .before .before .before .before .before .before .before .before .before .before .member .ensures .1) (c .before .before .before .before .before .before .before .before .before .before .before .place .given .1) (c .before .before .before .before .before .before .before .before .a-string .result) (c .before .before .before .before .before .before .before .before .a-string .ensures .0) (c .before .before .before .before .before .before .before .before .a-string .last .1 .1 .0) (c .before .before .before .before .before .before .before .before .a-string .kept .1 .1 .0) (c .before .before .before .before .before .before .before .before .a-string .ensures .1) (c .before .before .before .before .enum-told .given .1) (c .before .before .settle2 .last .1 .1 .0) (c .before .before .settle2 .ensures .0) (c .before .before .settle2 .ensures .1)
 
 pub header-spec : {M : Type 1} → statement M
 header-spec =

@@ -91,7 +91,7 @@ skip-same-length t c = search needs
 
 skip-returns-3 : (t : ℕ) → skip-lts.Need-returns-3 (claims t) (skip-at t) skip.Post skip-Inv-loop skip-μ-loop
 skip-returns-3 t c = let o = opened t (c .before .before .before .before .before .before .before .before .before .before .before .before .before) in
-    skip-ends o (pass-over (deeper _ _) (deeper-forward _ _) (o .opening) (c .before .before .before .before .before .before .before .before .before .before .before .before .loop .inv) (c .before .before .before .before .before .before .before .before .before .before .member .ensures .0) (c .before .before .before .before .before .before .before .before .before .before .member .ensures .1) (c .before .before .before .before .before .before .out .given .1)) (c .before .before .settle .last .1 .0) (c .before .before .settle .ensures .0) (c .before .before .before .told2 .ensures) (c .before .before .settle .ensures .1)
+    skip-ends o (pass-over (deeper _ _) (deeper-forward _ _) (o .opening) (c .before .before .before .before .before .before .before .before .before .before .before .before .loop .inv) (c .before .before .before .before .before .before .before .before .before .before .member .ensures .0) (c .before .before .before .before .before .before .before .before .before .before .member .ensures .1) (c .before .before .before .before .before .before .out .given .1)) (c .before .before .settle .last .1 .1 .0) (c .before .before .settle .ensures .0) (c .before .before .before .told2 .ensures) (c .before .before .settle .ensures .1)
 
 skip-enum-known-value : (t : ℕ) → skip-lts.Need-enum-known-value (claims t) (skip-at t) skip.Post skip-Inv-loop skip-μ-loop
 skip-enum-known-value t c = search needs
@@ -126,7 +126,7 @@ skip-same-length-2 t c = search needs
 
 skip-returns-4 : (t : ℕ) → skip-lts.Need-returns-4 (claims t) (skip-at t) skip.Post skip-Inv-loop skip-μ-loop
 skip-returns-4 t c = let o = opened t (c .before .before .before .before .before .before .before .before .before .before .before .before .before .before .before .before .before .before) in
-    skip-ends o (pass-halt (deeper _ _) (deeper-forward _ _) (o .opening) (c .before .before .before .before .before .before .before .before .before .before .before .before .before .before .before .before .before .loop .inv) (c .before .before .before .before .before .before .before .before .before .before .before .before .before .before .before .member .ensures .0) (c .before .before .before .before .before .before .before .before .before .before .before .before .before .before .before .member .ensures .1) (c .before .before .before .before .before .before .before .before .before .before .before .value .given .1) (c .before .before .before .before .before .before .before .before .skip .last .1 .1 .1 .0) (c .before .before .before .before .before .before .before .before .skip .kept .1 .1 .1 .0) (c .before .before .before .before .before .before .before .before .skip .ensures .1) (sym (c .before .before .before .before .before .before .before .before .skip .ensures .0) ∙ ap stepOf (c .before .before .before .before .enum-told .given .1))) (c .before .before .settle2 .last .1 .0) (c .before .before .settle2 .ensures .0) (ap stepOf (c .before .before .before .before .enum-told .given .1)) (c .before .before .settle2 .ensures .1)
+    skip-ends o (pass-halt (deeper _ _) (deeper-forward _ _) (o .opening) (c .before .before .before .before .before .before .before .before .before .before .before .before .before .before .before .before .before .loop .inv) (c .before .before .before .before .before .before .before .before .before .before .before .before .before .before .before .member .ensures .0) (c .before .before .before .before .before .before .before .before .before .before .before .before .before .before .before .member .ensures .1) (c .before .before .before .before .before .before .before .before .before .before .before .value .given .1) (c .before .before .before .before .before .before .before .before .skip .last .1 .1 .1 .0) (c .before .before .before .before .before .before .before .before .skip .kept .1 .1 .1 .0) (c .before .before .before .before .before .before .before .before .skip .ensures .1) (sym (c .before .before .before .before .before .before .before .before .skip .ensures .0) ∙ ap stepOf (c .before .before .before .before .enum-told .given .1))) (c .before .before .settle2 .last .1 .1 .0) (c .before .before .settle2 .ensures .0) (ap stepOf (c .before .before .before .before .enum-told .given .1)) (c .before .before .settle2 .ensures .1)
 
 pub +skip-spec : {M : Type 1} → statement M
 +skip-spec = close μ-skip λ t. skip-lts.spec (claims t)
