@@ -12,5 +12,3 @@ pub mod Dcfg
 pub mod Order
 pub mod Private
 pub mod Lent
-pub mod Examples
-pub mod Samples
