@@ -1,7 +1,7 @@
 -- The passes over arrays and objects: where they end, and that their steps never run out. Assumes nothing.
 use Prim.Native.Nat.{ℕ, zero, suc, _+_, _-_, _≤_, _<_}
 use mathlib.Core.Path.{_≡_, refl, sym, _∙_}
-use mathlib.Core.Bool.{true, false}
+use mathlib.Core.Bool.{Bool, true, false}
 use mathlib.Core.List.{List, []}
 use native.Mathlib.Omega.{arith}
 use lib.Dec.{eqb}
@@ -72,13 +72,13 @@ last-in : {A : Type 0} (low high m : ℕ) (r : Read) (a : A) → StepIn low high
 last-in low high m (At n) a = omega arith
 last-in low high m (No p) a = omega arith
 
-pub unless-in : {A : Type 0} (low high : ℕ) (s : List ℕ) (r : Fold A) → FoldIn low high r → StepIn low high (unlessRepeated s false r)
+pub unless-in : {A : Type 0} (low high : ℕ) (s : List ℕ) (ids : Bool) (r : Fold A) → FoldIn low high r → StepIn low high (unlessRepeated s ids r)
 unfolding unlessRepeated
-unless-in {A} low high s (fold r g) h = go-on (repeatedIn (keyAt s false) [] g)
+unless-in {A} low high s ids (fold r g) h = go-on (repeatedIn (keyAt s ids) [] g)
   where
-    go-on : (x : First) → StepIn {A = A} low high (elim x [ none ↦ r | first q ↦ atLast 33 (plainAt s q) (noted r) ])
+    go-on : (x : First) → StepIn {A = A} low high (elim x [ none ↦ r | first q ↦ atLast (repeatNumber ids) (plainAt s q) (noted r) ])
     go-on none = h
-    go-on (first q) = last-in low high 33 (plainAt s q) (noted r)
+    go-on (first q) = last-in low high (repeatNumber ids) (plainAt s q) (noted r)
 
 -- A reader of values goes forward.
 abbrev pub Forward : {A : Type 0} → List ℕ → (A → First → ℕ → Step A) → Type 0
@@ -140,6 +140,6 @@ pub skipped-in : (left : ℕ) (s : List ℕ) (i : ℕ) → StepIn i (length s) (
 unfolding skipped
 skipped-in zero s i = both (StepIn i (length s)) (opens (byteAt s i)) (λ e. omega arith) (λ e. plain-step s i tt)
 skipped-in (suc left) s i = both (StepIn i (length s)) (opens (byteAt s i))
-    (λ e. unless-in i (length s) s (pass (λ a key p. skipped left s p) s i tt)
+    (λ e. unless-in i (length s) s false (pass (λ a key p. skipped left s p) s i tt)
     (pass-in s (λ a key p. skipped left s p) i (opens-inside s i e) (λ a k p l. skipped-in left s p) tt))
     (λ e. plain-step s i tt)

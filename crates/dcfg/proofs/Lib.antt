@@ -11,6 +11,8 @@ pub mod Naming
 pub mod Walking
 pub mod Heading
 pub mod Knowing
+pub mod Forwarding
+pub mod Keying
 pub mod Orders
 pub mod LeastRepeats
 pub mod Comparing
