@@ -4,7 +4,7 @@ use mathlib.Core.Path.{_≡_, refl, sym, ap, _∙_, subst}
 use mathlib.Core.Bool.{true, false}
 use mathlib.Core.List.{List, [], _∷_, _++_}
 use native.Mathlib.Omega.{arith}
-use borrow.Author.Tests.{lt-ltb, le-ltb, eq-eqb, ne-eqb, eqb-true}
+use borrow.Author.Tests.{lt-ltb, le-ltb, eq-eqb, ne-eqb}
 use lib.Dec.{eqb}
 use lib.ListN.{length, getD, set, take}
 use Rattle.refusal.specs.Refusal.{numberOf}
@@ -16,18 +16,18 @@ use Rattle.json.proofs.Tests.{told, both}
 use Rattle.json.proofs.Places.{string-in}
 use Rattle.dcfg.specs.declared.passed.Passed.{Passed}
 use Rattle.dcfg.specs.declared.passed.Passed.the-variants.{To, Refused}
-use Rattle.dcfg.specs.Repeated.{First, none, first, repeatedIn, keyAt}
-use Rattle.dcfg.specs.Reading.{Step, go, halt, stop, Fold, fold, ended, noted, pass, atLast, unlessRepeated}
+use Rattle.dcfg.specs.Repeated.{none, first}
+use Rattle.dcfg.specs.Reading.{Step, go, halt, stop, Fold, fold, ended, noted, pass, unlessRepeated}
 use Rattle.dcfg.specs.Kinds.{noting, wrong, aString}
 use Rattle.json.specs.declared.Read.{Read}
-use Rattle.json.specs.declared.Read.the-variants.{At, No}
-use Rattle.json.specs.Plain.{plainAt}
 use Rattle.dcfg.specs.Names.{columnsOf, numberIn}
 use Rattle.dcfg.specs.Tables.{Header, noColumns, found, withColumn, headerCell, columnsOnce, headerAt}
 use Rattle.dcfg.specs.Private.{stepOf, entryOf, keptOf, Room, Place, Headed}
 use Rattle.sorting.specs.Sorting.{Each, Rising, part}
 use Rattle.dcfg.proofs.Holding.{Held, held-start, part-empty, settle-ready, held-room, held-call, part-call, held-key, part-kept}
 use Rattle.dcfg.proofs.Parts.{length-part}
+use Rattle.dcfg.proofs.Settling.{unless-noting, unless-noted, stop-noting, stop-noted}
+use Rattle.dcfg.proofs.Arrays.{not-object}
 use Rattle.dcfg.proofs.Walking.{Walking, Met, Over-with, walk-start, walk-over, walk-value, walk-go, walk-halt}
 use Rattle.dcfg.specs.declared.entries.Entry.{Entry}
 use Rattle.dcfg.specs.declared.entries.Entry.the-variants.{Value, Over}
@@ -68,33 +68,6 @@ module _ (s : List ℕ) (table : ℕ) (h : Header) (p : ℕ) {out : Passed} (e :
   unfolding headerCell
   cell-halt f = rw (sym e ∙ ap stepOf f, headerCell)
 
--- What is noted changes nothing of what is repeated.
-
-last-noting : (m : ℕ) (r : Read) (h : Header) → noting {A = Header} {B = Unit {0}} tt (atLast m r h) ≡ atLast {A = Unit {0}} m r tt
-last-noting m (At n) h = refl
-last-noting m (No p) h = refl
-
-last-noted : (m : ℕ) (r : Read) (h : Header) → noted (atLast m r h) ≡ h
-last-noted m (At n) h = refl
-last-noted m (No p) h = refl
-
-module _ (s : List ℕ) (r : Step Header) (g : List ℕ) where
-  unless-noting : noting {A = Header} {B = Unit {0}} tt (unlessRepeated s false (fold r g)) ≡ unlessRepeated s false (fold (noting {B = Unit {0}} tt r) g)
-  unfolding unlessRepeated
-  unless-noting = go-on (repeatedIn (keyAt s false) [] g)
-    where
-      go-on : (x : First) → _≡_ {A = Step (Unit {0})} (noting {A = Header} tt (elim x [ none ↦ r | first q ↦ atLast 33 (plainAt s q) (noted r) ])) (elim x [ none ↦ noting {A = Header} {B = Unit {0}} tt r | first q ↦ atLast 33 (plainAt s q) (noted (noting {B = Unit {0}} tt r)) ])
-      go-on none = refl
-      go-on (first q) = last-noting 33 (plainAt s q) (noted r)
-
-  unless-noted : noted (unlessRepeated s false (fold r g)) ≡ noted r
-  unfolding unlessRepeated
-  unless-noted = go-on (repeatedIn (keyAt s false) [] g)
-    where
-      go-on : (x : First) → noted (elim x [ none ↦ r | first q ↦ atLast 33 (plainAt s q) (noted r) ]) ≡ noted r
-      go-on none = refl
-      go-on (first q) = last-noted 33 (plainAt s q) (noted r)
-
 -- What the whole comes to.
 
 pub header-not : (s : List ℕ) (table i : ℕ) {out : Passed} → eqb (byteAt s i) 91 ≡ false → stepOf out ≡ wrong s i → Headed s table i out (0 ∷ 0 ∷ 0 ∷ 0 ∷ 0 ∷ [])
@@ -116,28 +89,17 @@ module _ (s : List ℕ) (table i : ℕ) (e : eqb (byteAt s i) 91 ≡ true) (r : 
 
   pub header-ends : {out : Passed} → stepOf out ≡ unlessRepeated s false (fold (noting {B = Unit {0}} tt r) (noted r .places)) → Headed s table i out (noted r .known)
   header-ends f = record {
-    ends = f ∙ sym (unless-noting s r (noted r .places)) ∙ ap (noting tt) is-header;
-    columns = ap (λ (h : Header). h .known) (sym (unless-noted s r (noted r .places)) ∙ ap noted is-header);
+    ends = f ∙ sym (unless-noting s false r (noted r .places)) ∙ ap (noting tt) is-header;
+    columns = ap (λ (h : Header). h .known) (sym (unless-noted s false r (noted r .places)) ∙ ap noted is-header);
   }
 
 -- Where the loop stands.
 pub record HeaderLoop (s : List ℕ) (table at : ℕ) (keys₀ : List ℕ) (top : ℕ) (keys known : List ℕ) (from n : ℕ) : Type 0 where
   pub head : Header
-  pub walk : Walking s (headerCell s table) at noColumns from head
+  pub walk : Walking s (headerCell s table) at (pass (headerCell s table) s at noColumns) from head
   pub held : Held s keys₀ keys top from n
   pub places : part keys top n ≡ head .places
   pub known-is : known ≡ head .known
-
-read-noting : (r : Read) (h : Header) → stop {A = Unit {0}} r tt ≡ noting {A = Header} {B = Unit {0}} tt (stop r h)
-read-noting (At n) h = refl
-read-noting (No p) h = refl
-
-read-noted : (r : Read) (h : Header) → noted (stop r h) ≡ h
-read-noted (At n) h = refl
-read-noted (No p) h = refl
-
-not-object : (s : List ℕ) (i : ℕ) → eqb (byteAt s i) 91 ≡ true → eqb (byteAt s i) 123 ≡ false
-not-object s i e = ne-eqb (byteAt s i) 123 (λ q. omega (arith, eqb-true (byteAt s i) 91 e))
 
 string-two : (s : List ℕ) (i : ℕ) → StepIn (i + 1) (length s) (aString s i)
 unfolding aString
@@ -175,7 +137,7 @@ module _ {s : List ℕ} (table : ℕ) {at : ℕ} (e : eqb (byteAt s at) 91 ≡ t
 
     module _ {en : Entry} {keys′ : List ℕ} (x : en ≡ entryOf (nextIn s at from) n) (y : keys′ ≡ keptOf (nextIn s at from) keys n) where
       module _ {r : Read} {m : ℕ} (z : en ≡ Over r m) where
-        done : Over-with s (headerCell s table) at noColumns n keys m keys′ (stop r (l .head))
+        done : Over-with s (headerCell s table) at (pass (headerCell s table) s at noColumns) n keys m keys′ (stop r (l .head))
         done = walk-over (headerCell s table) (cell-forward s table) inside (not-object s at e) (l .walk) x y z
 
         pub over-settles : ((length s ≤ 1048576) × (top ≤ n) × (n ≤ length keys′)) × (Rising (part keys′ top n) × Each (Place s) (part keys′ top n))
@@ -183,11 +145,11 @@ module _ {s : List ℕ} (table : ℕ) {at : ℕ} (e : eqb (byteAt s at) 91 ≡ t
 
         pub over-ends : (after : List ℕ) {out : Passed} {w : Step (Unit {0})} → stepOf out ≡ unlessRepeated s false (fold w (part keys′ top n)) → w ≡ stop r tt
             → take top after ≡ take top keys′ → Headed s table at out known × (take top after ≡ take top keys₀)
-        over-ends after f g k = ends-with (stop r (l .head)) (read-noted r (l .head)) (done .rest) keys′
-            (ap (λ (q : List ℕ). part q top n) (done .same-keys) ∙ l .places) (ap (take top) (done .same-keys) ∙ l .held .below) after f (g ∙ read-noting r (l .head)) k
+        over-ends after f g k = ends-with (stop r (l .head)) (stop-noted r (l .head)) (done .rest) keys′
+            (ap (λ (q : List ℕ). part q top n) (done .same-keys) ∙ l .places) (ap (take top) (done .same-keys) ∙ l .held .below) after f (g ∙ stop-noting r (l .head)) k
 
       module _ {v m : ℕ} (z : en ≡ Value v m) where
-        met : Met s (headerCell s table) at noColumns from n keys v m keys′ (l .head)
+        met : Met s (headerCell s table) at (pass (headerCell s table) s at noColumns) from n keys v m keys′ (l .head)
         met = walk-value (headerCell s table) (cell-forward s table) inside (not-object s at e) (l .walk) x y z
 
         long : length keys′ ≡ length keys₀

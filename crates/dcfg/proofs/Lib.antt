@@ -9,6 +9,7 @@ pub mod Judging
 pub mod Counting
 pub mod Naming
 pub mod Walking
+pub mod Arrays
 pub mod Heading
 pub mod Knowing
 pub mod Forwarding

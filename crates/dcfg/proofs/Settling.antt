@@ -10,7 +10,8 @@ use Rattle.json.specs.declared.Read.the-variants.{At, No}
 use Rattle.json.specs.Plain.{plainAt}
 use Rattle.json.proofs.Tests.{clash}
 use Rattle.dcfg.specs.Repeated.{First, none, first, same, any, repeatedIn, keyAt}
-use Rattle.dcfg.specs.Reading.{Step, halt, Fold, fold, atLast, repeatNumber, unlessRepeated, noted}
+use Rattle.dcfg.specs.Reading.{Step, go, halt, stop, Fold, fold, atLast, repeatNumber, unlessRepeated, noted}
+use Rattle.dcfg.specs.Kinds.{noting}
 use Rattle.sorting.specs.Sorting.{Each}
 use Rattle.dcfg.specs.Private.{placeOf, noPlace, Place}
 
@@ -48,3 +49,38 @@ module _ (s : List ℕ) (ids : Bool) (g : List ℕ) (r : ℕ) (e : r ≡ placeOf
   pub settled-first : {A : Type 0} (x : Step A) → (r ≡ noPlace → ⊥) → (p : Read) → p ≡ plainAt s r → atLast (repeatNumber ids) p (noted x) ≡ unlessRepeated s ids (fold x g)
   unfolding unlessRepeated
   settled-first x h p f = rw (is-first h, f, unlessRepeated)
+
+-- What is noted changes nothing of what is repeated.
+last-noting : {A B : Type 0} (m : ℕ) (r : Read) (a : A) (b : B) → noting b (atLast m r a) ≡ atLast m r b
+last-noting m (At n) a b = refl
+last-noting m (No p) a b = refl
+
+module _ {A : Type 0} (s : List ℕ) (ids : Bool) (r : Step A) (g : List ℕ) where
+  pub unless-noting : noting {B = Unit {0}} tt (unlessRepeated s ids (fold r g)) ≡ unlessRepeated s ids (fold (noting {B = Unit {0}} tt r) g)
+  unfolding unlessRepeated
+  unless-noting = go-on (repeatedIn (keyAt s ids) [] g)
+    where
+      go-on : (x : First) → _≡_ {A = Step (Unit {0})} (noting {A = A} tt (elim x [ none ↦ r | first q ↦ atLast (repeatNumber ids) (plainAt s q) (noted r) ])) (elim x [ none ↦ noting {A = A} {B = Unit {0}} tt r | first q ↦ atLast (repeatNumber ids) (plainAt s q) (noted (noting {B = Unit {0}} tt r)) ])
+      go-on none = refl
+      go-on (first q) = last-noting (repeatNumber ids) (plainAt s q) (noted r) tt
+
+  -- It notes what the pass did.
+  pub unless-noted : noted (unlessRepeated s ids (fold r g)) ≡ noted r
+  unfolding unlessRepeated
+  unless-noted = go-on (repeatedIn (keyAt s ids) [] g)
+    where
+      at : (q : Read) → noted (atLast (repeatNumber ids) q (noted r)) ≡ noted r
+      at (At n) = refl
+      at (No p) = refl
+
+      go-on : (x : First) → noted (elim x [ none ↦ r | first q ↦ atLast (repeatNumber ids) (plainAt s q) (noted r) ]) ≡ noted r
+      go-on none = refl
+      go-on (first q) = at (plainAt s q)
+
+pub stop-noting : {A : Type 0} (r : Read) (a : A) → stop {A = Unit {0}} r tt ≡ noting tt (stop r a)
+stop-noting (At n) a = refl
+stop-noting (No p) a = refl
+
+pub stop-noted : {A : Type 0} (r : Read) (a : A) → noted (stop r a) ≡ a
+stop-noted (At n) a = refl
+stop-noted (No p) a = refl
