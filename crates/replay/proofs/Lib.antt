@@ -27,3 +27,5 @@ pub mod Weighing
 pub mod Filling
 pub mod Exactly
 pub mod Further
+pub mod Skimming
+pub mod InPlace

@@ -5,9 +5,11 @@ ghost use mathlib.Core.Bool.{false};
 ghost use Prim.Native.Nat.{_+_, _-_, _^_, _<_, _≤_, min};
 ghost use lib.ListN.{length};
 ghost use Rattle.fdr.specs.Walk.{inFront};
-ghost use Rattle.replay.specs.Feeding.{Sees};
-ghost use Rattle.replay.specs.Weighing.{wayOn, wayBehind, roomOf, Filled, Weighable, Weighed, Holdable};
+ghost use Rattle.replay.specs.Feeding.{Standing, Sees};
+ghost use Rattle.replay.specs.Weighing.{wayOn, skimmed, wayBehind, roomOf, Filled, Weighable, Weighed, Holdable};
 use crate::stream::in_front;
+use fdr::ahead::Ahead;
+use fdr::ahead::call_ahead;
 use fdr::reader::family_size;
 use fdr::record::Record;
 use fdr::walk::Position;
@@ -72,6 +74,16 @@ fn least(a: u64, b: u64) -> u64
         return a;
     }
     b
+}
+
+// Past the bytes that are skipped, as many as the read has.
+fn skim(read: &[u8], way: Way) -> Way
+    requires { ⌜ way .at .place ≤ length (now read) ⌝ }
+    ensures { λ r. ⌜ r ≡ skimmed (length (now (read .entry))) way ⌝ }
+{
+    let at = way.at;
+    let here = least(way.skip, (read.len() - at.place) as u64);
+    on(way, here as usize, way.skip - here, way.count)
 }
 
 // The way behind a record of so many bytes, which was judged at 0 in a buffer that ends at `next.end`.
@@ -181,4 +193,73 @@ fn hold(read: &[u8], held: &mut [u8; 32], way: Way, base: u64) -> Sight
         return Sight::More(now);
     }
     weigh(read, held, now, room, base)
+}
+
+// What comes next where no call is read in place.
+fn gather(read: &[u8], held: &mut [u8; 32], way: Way, base: u64) -> Sight
+    requires { ⌜ Standing base (now read) (now held) way ⌝ }
+    ensures { λ r. ⌜ Sees base (now (read .entry)) (now (held .entry)) way r (now (held .exit)) ⌝ }
+{
+    let now = skim(read, way);
+    if 0 < now.skip {
+        return Sight::More(now);
+    }
+    let at = now.at;
+    let stage = at.stage;
+    if in_front(stage) {
+        if at.place == read.len() {
+            return Sight::More(now);
+        }
+        if at.size < 64 {
+            return Sight::Refused {
+                refusal: Refusal::BufferSize,
+                place: 0,
+            };
+        }
+        return hold(read, held, now, base);
+    }
+    let left = (at.end - at.place) as u64 + now.beyond;
+    if left == 0 {
+        let place = base + at.place as u64;
+        return Sight::Refused {
+            refusal: Refusal::PastEnd,
+            place,
+        };
+    }
+    if at.place == read.len() {
+        return Sight::More(now);
+    }
+    hold(read, held, now, base)
+}
+
+// What stands next in a read.
+pub fn look(read: &[u8], held: &mut [u8; 32], way: Way, base: u64) -> Sight
+    requires { ⌜ Standing base (now read) (now held) way ⌝ }
+    ensures { λ r. ⌜ Sees base (now (read .entry)) (now (held .entry)) way r (now (held .exit)) ⌝ }
+{
+    if way.count == 0 {
+        if way.skip == 0 {
+            let at = way.at;
+            let ahead = call_ahead(read, at);
+            if let Ahead::Call {
+                action,
+                id,
+                delta,
+                next,
+            } = ahead {
+                let place = base + at.place as u64;
+                return Sight::Found {
+                    record: Record::Function { action, id, delta },
+                    place,
+                    way: Way {
+                        at: next,
+                        beyond: way.beyond,
+                        skip: 0,
+                        count: 0,
+                    },
+                };
+            }
+        }
+    }
+    gather(read, held, way, base)
 }
