@@ -24,6 +24,7 @@ pub mod Ordering
 pub mod Viewing
 pub mod Shifting
 pub mod Weighing
+pub mod Ways
 pub mod Filling
 pub mod Exactly
 pub mod Further
