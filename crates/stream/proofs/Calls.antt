@@ -18,7 +18,7 @@ use Rattle.replay.specs.declared.stream.Fed.{Fed}
 use Rattle.replay.proofs.CheckingState.{state-over, view-over, view-heading, view-going}
 use Rattle.replay.proofs.Exactly.{passed-end}
 use Rattle.stream.specs.Session.{Call, reading, ending, Does, Made, idle, afterCall}
-use Rattle.stream.specs.Promise.{Idles}
+use Rattle.stream.specs.Promise.{Idles, Settles}
 
 -- No sound stream says 14 or 22.
 verdict-loud : (offset : ℕ) (v : Verdict) → EndSound offset v → idle (told v) ≡ false
@@ -44,9 +44,9 @@ module _ (next : meaning.Stream → meaning.Stream) (x : Stream) (t : List ℕ) 
   pub data Given : Type 0 where
     unsound : stateSound x ≡ false → Unchanged x t (refusal 22 0) r u → Given
     over : stateSound x ≡ true → x .over ≡ true → Unchanged x t (verdictOf (x .answer)) r u → Given
-    short : length t < cells → Unchanged x t (refusal 14 0) r u → Given
+    short : x .over ≡ false → length t < cells → Unchanged x t (refusal 14 0) r u → Given
     uneven : x .over ≡ false → tableSound x t ≡ false → Unchanged x t (refusal 22 0) r u → Given
-    goes : cells ≤ length t → Advanced (next (viewed x t)) t r u → Given
+    goes : x .over ≡ false → cells ≤ length t → Advanced (next (viewed x t)) t r u → Given
 
   abbrev By : Bool → Bool → Bool → Bool → Type 0
   By a b c d = elim a [
@@ -66,17 +66,25 @@ module _ (next : meaning.Stream → meaning.Stream) (x : Stream) (t : List ℕ) 
       go : (a : Bool) → stateSound x ≡ a → (b : Bool) → x .over ≡ b → (c : Bool) → ltb (length t) cells ≡ c → (d : Bool) → tableSound x t ≡ d → By a b c d → Given
       go false e b o c l d s g = unsound e g
       go true e true o c l d s g = over e o g
-      go true e false o true l d s g = short (ltb-true (length t) cells l) g
+      go true e false o true l d s g = short o (ltb-true (length t) cells l) g
       go true e false o false l false s g = uneven o s g
-      go true e false o false l true s g = goes (ltb-false (length t) cells l) g
+      go true e false o false l true s g = goes o (ltb-false (length t) cells l) g
 
   -- 14 and 22 change nothing.
   idles : idle (sayingOf (r .reply)) ≡ true → Given → (r .stream ≡ x) × (u ≡ t)
   idles e (unsound s h) = (h .state, h .table)
   idles e (over s o h) = (h .state, h .table)
-  idles e (short l h) = (h .state, h .table)
+  idles e (short o l h) = (h .state, h .table)
   idles e (uneven o s h) = (h .state, h .table)
-  idles e (goes l a) = absurd (true≢false (sym e ∙ ap idle (a .reply ∙ sym (ap said (a .state))) ∙ sound-loud (r .stream) u (a .sound)))
+  idles e (goes o l a) = absurd (true≢false (sym e ∙ ap idle (a .reply ∙ sym (ap said (a .state))) ∙ sound-loud (r .stream) u (a .sound)))
+
+  -- Nor do calls of an ended stream.
+  settles : stateSound x ≡ true → x .over ≡ true → Given → (r .stream ≡ x) × (u ≡ t) × (sayingOf (r .reply) ≡ told (verdictOf (x .answer)))
+  settles s e (unsound q h) = absurd (true≢false (sym s ∙ q))
+  settles s e (over q o h) = (h .state, h .table, h .reply)
+  settles s e (short o l h) = absurd (true≢false (sym e ∙ o))
+  settles s e (uneven o q h) = absurd (true≢false (sym e ∙ o))
+  settles s e (goes o l a) = absurd (true≢false (sym e ∙ o))
 
   pub silent : (v : Verdict) → idle (told v) ≡ true → sayingOf (r .reply) ≡ told v → idle (sayingOf (r .reply)) ≡ false → ⊥
   silent v e s loud = true≢false (sym e ∙ sym (ap idle s) ∙ loud)
@@ -90,3 +98,6 @@ gives c = given (λ y. afterCall y (c .call)) (c .state) (c .lent) (c .fed) (c .
 
 pub idle-calls : Idles
 idle-calls c e = idles (λ y. afterCall y (c .call)) (c .state) (c .lent) (c .fed) (c .left) e (gives c)
+
+pub ended-calls : Settles
+ended-calls c s e = settles (λ y. afterCall y (c .call)) (c .state) (c .lent) (c .fed) (c .left) s e (gives c)

@@ -47,9 +47,9 @@ module _ (next : meaning.Stream → meaning.Stream) (old : List ℕ) (y : meanin
   loud : cells ≤ length old → Given next x t r u → idle (sayingOf (r .reply)) ≡ false
   loud wide (unsound e h) = absurd (true≢false (sym (k .sound) ∙ e))
   loud wide (over e o h) = ap idle (h .reply ∙ sym (ap said (view-over x t o))) ∙ sound-loud x t e
-  loud wide (short l h) = absurd (omega (arith, k .same))
+  loud wide (short o l h) = absurd (omega (arith, k .same))
   loud wide (uneven o s h) = absurd (true≢false (sym (k .rows) ∙ ap (λ (b : Bool). b || tableSound x t) o ∙ s))
-  loud wide (goes l a) = ap idle (a .reply ∙ sym (ap said (a .state))) ∙ sound-loud (r .stream) u (a .sound)
+  loud wide (goes o l a) = ap idle (a .reply ∙ sym (ap said (a .state))) ∙ sound-loud (r .stream) u (a .sound)
 
   module _ (stays : (v : Verdict) (rows : List Row) → next (ended v rows) ≡ ended v rows) where
     was-over : x .over ≡ true → Unchanged x t (verdictOf (x .answer)) r u → Went old (next y) r u
@@ -85,9 +85,9 @@ module _ (next : meaning.Stream → meaning.Stream) (old : List ℕ) (y : meanin
     went : idle (sayingOf (r .reply)) ≡ false → Given next x t r u → Went old (next y) r u
     went heard (unsound e h) = absurd (true≢false (sym (k .sound) ∙ e))
     went heard (over e o h) = was-over o h
-    went heard (short l h) = absurd (silent next x t r u (refusal 14 0) refl (h .reply) heard)
+    went heard (short o l h) = absurd (silent next x t r u (refusal 14 0) refl (h .reply) heard)
     went heard (uneven o s h) = absurd (silent next x t r u (refusal 22 0) refl (h .reply) heard)
-    went heard (goes l a) = went-on l a
+    went heard (goes o l a) = went-on l a
 
 ended-stays : (c : Call) (v : Verdict) (rows : List Row) → afterCall (ended v rows) c ≡ ended v rows
 unfolding readBy endTold

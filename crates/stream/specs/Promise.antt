@@ -9,9 +9,9 @@ use Rattle.fdr.specs.Header.{passed, failed, openedWithin, longest}
 use Rattle.fdr.specs.declared.form.Form.{Form}
 use Rattle.fdr.specs.declared.header.Header.{Header}
 use Rattle.replay.specs.Row.{Row, cells, tableOf}
-use Rattle.replay.specs.Replay.{Verdict, answer, tableAfter}
+use Rattle.replay.specs.Replay.{Verdict, verdictOf, answer, tableAfter}
 use Rattle.replay.specs.Stream.{Stream, Midway, going, ended, fresh, stop, fed, endTold, reads, joinAll, whole, rowsNow}
-use Rattle.replay.specs.State.{told, said}
+use Rattle.replay.specs.State.{stateSound, told, said}
 use Rattle.replay.specs.declared.stream.Stream as state
 use Rattle.stream.specs.Session.{Call, ending, Made, saidBy, idle, heard, InTurn, Started, Session, answerIn, tableIn, callsIn, readings, afterCalls}
 
@@ -53,7 +53,12 @@ Shows y t made = (answerIn made ≡ said y) × (tableIn t made ≡ tableOf (rows
 abbrev pub Idles : Type 0
 Idles = (c : Made) → idle (saidBy c) ≡ true → (c .fed .stream ≡ c .state) × (c .left ≡ c .lent)
 
--- And with room for the rows none is: where each call gets the state and the table as the one before left them, none is
+-- "nor do calls after any other refusal or the end, which give the same answer whatever they are lent": calls with the state
+-- that such a one left.
+abbrev pub Settles : Type 0
+Settles = (c : Made) → stateSound (c .state) ≡ true → c .state .over ≡ true → (c .fed .stream ≡ c .state) × (c .left ≡ c .lent) × (saidBy c ≡ told (verdictOf (c .state .answer)))
+
+-- With room for the rows none is left out: where each call gets the state and the table as the one before left them, none is
 -- answered by 14 or 22.
 abbrev pub AllHeard : Type 0
 AllHeard = (f : Form) (x : state.Stream) (t : List ℕ) (made : List Made) → Started f x → cells ≤ length t → InTurn x t made → heard made ≡ made
