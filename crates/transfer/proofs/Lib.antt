@@ -1,0 +1,5 @@
+pub mod Copying
+pub mod Standing
+pub mod Laying
+pub mod Packing
+pub mod Calling

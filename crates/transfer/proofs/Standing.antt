@@ -1,0 +1,50 @@
+-- Numbers that stand for a state, test by test. Assumes nothing.
+use Prim.Native.Nat.{ℕ, _+_, _<_, _≤_}
+use mathlib.Core.Path.{_≡_, ap}
+use mathlib.Core.Bool.{Bool, true, false, _&&_, _||_}
+use mathlib.Core.List.{List}
+use native.Mathlib.Nat.{add-assoc}
+use native.Mathlib.Omega.{arith}
+use borrow.Author.Tests.{ltb-true}
+use lib.Dec.{eqb, ltb}
+use lib.ListN.{getD, take, drop}
+use lib.Seq.{getD-drop}
+use Rattle.fdr.specs.Form.{formOf}
+use Rattle.fdr.specs.declared.form.Form.{Form}
+use Rattle.fdr.specs.declared.grammar.Stage.{Stage}
+use Rattle.fdr.specs.declared.grammar.Threads.{Threads}
+use Rattle.replay.specs.State.{allBelow}
+use Rattle.replay.specs.declared.Answer.{Answer}
+use Rattle.replay.specs.declared.stream.Stream.{Stream}
+use Rattle.replay.proofs.CheckingState.{both}
+use Rattle.transfer.specs.Numbers.{namedBy, isKnown, stageOf, threadsOf, answerBy, streamOf, stands}
+use Rattle.transfer.proofs.Copying.{under, below-all}
+
+-- A part of a run.
+pub below-part : (s : List ℕ) (from n limit k count : ℕ) → allBelow n (drop from s) limit ≡ true → k + count ≤ n → allBelow count (drop (from + k) s) limit ≡ true
+below-part s from n limit k count e h =
+    below-all count (drop (from + k) s) limit
+    (λ j l. omega (arith, getD-drop (from + k) s j 0, ap (λ (i : ℕ). getD s i 0) (add-assoc from k j), under s from n limit (k + j) e (omega arith)))
+
+-- What the tests say of each number.
+pub record Stood (s : List ℕ) : Type 0 where
+  pub order : getD s 0 0 < 2
+  pub thread : getD s 6 0 < 65537
+  pub bytes : allBelow 32 (drop 274 s) 256 ≡ true
+  pub rows : allBelow 5376 (drop 306 s) 65536 ≡ true
+
+pub stood : (s : List ℕ) → stands s ≡ true → Stood s
+unfolding stands
+stood s e =
+    let f = both (allBelow 32 (drop 274 s) 256) (allBelow 5376 (drop 306 s) 65536) in
+    let a = both (ltb (getD s 0 0) 2) (ltb (getD s 5 0) 5 && (ltb (getD s 6 0) 65537 && (ltb (getD s 12 0) 2 && ((eqb (getD s 13 0) 0 || isKnown (namedBy (getD s 13 0))) && (allBelow 32 (drop 274 s) 256 && allBelow 5376 (drop 306 s) 65536))))) e in
+    let b = both (ltb (getD s 5 0) 5) (ltb (getD s 6 0) 65537 && (ltb (getD s 12 0) 2 && ((eqb (getD s 13 0) 0 || isKnown (namedBy (getD s 13 0))) && (allBelow 32 (drop 274 s) 256 && allBelow 5376 (drop 306 s) 65536)))) (a .1) in
+    let c = both (ltb (getD s 6 0) 65537) (ltb (getD s 12 0) 2 && ((eqb (getD s 13 0) 0 || isKnown (namedBy (getD s 13 0))) && (allBelow 32 (drop 274 s) 256 && allBelow 5376 (drop 306 s) 65536))) (b .1) in
+    let d = both (ltb (getD s 12 0) 2) ((eqb (getD s 13 0) 0 || isKnown (namedBy (getD s 13 0))) && (allBelow 32 (drop 274 s) 256 && allBelow 5376 (drop 306 s) 65536)) (c .1) in
+    let g = both (eqb (getD s 13 0) 0 || isKnown (namedBy (getD s 13 0))) (allBelow 32 (drop 274 s) 256 && allBelow 5376 (drop 306 s) 65536) (d .1) in
+    record { order = ltb-true (getD s 0 0) 2 (a .0); thread = ltb-true (getD s 6 0) 65537 (c .0); bytes = f (g .1) .0; rows = f (g .1) .1 }
+
+-- The state, part by part.
+pub made : (s : List ℕ) (f : Form) (held row since index cache : List ℕ) (g : Stage) (t : Threads) (over : Bool) (a : Answer) → f ≡ formOf (getD s 0 0) → held ≡ take 32 (drop 274 s) → row ≡ take 256 (drop 306 s) → since ≡ take 256 (drop 18 s) → index ≡ take 1024 (drop 562 s) → cache ≡ take 4096 (drop 1586 s) → g ≡ stageOf (getD s 5 0) → t ≡ threadsOf (getD s 6 0) → over ≡ eqb (getD s 12 0) 1 → a ≡ answerBy (namedBy (getD s 13 0)) (getD s 14 0) (getD s 15 0) (getD s 16 0) (getD s 17 0) → _≡_ {A = Stream} (record { form = f; offset = getD s 1 0; «buffer_size» = getD s 2 0; skip = getD s 3 0; held = held; count = getD s 4 0; stage = g; threads = t; row = row; since = since; depth = getD s 7 0; clock = getD s 8 0; rows = getD s 9 0; records = getD s 10 0; buffers = getD s 11 0; index = index; cache = cache; over = over; answer = a }) (streamOf s)
+unfolding streamOf
+made s f held row since index cache g t o a e1 e2 e3 e4 e5 e6 e7 e8 e9 e10 = rw (e1, e2, e3, e4, e5, e6, e7, e8, e9, e10)

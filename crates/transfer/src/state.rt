@@ -1,0 +1,158 @@
+// The state of a stream as numbers, and back.
+ghost use mathlib.Core.Path.{_≡_};
+ghost use mathlib.Core.Bool.{true};
+ghost use Prim.Native.Nat.{_<_, _≤_};
+ghost use lib.ListN.{length};
+ghost use Rattle.transfer.specs.Numbers.{threadsNumber, stateLength, scalars, streamOf, stands, Kept};
+use crate::parts::all_below;
+use crate::parts::read_u8;
+use crate::parts::read_u16;
+use crate::parts::read_u64;
+use crate::parts::write_u8;
+use crate::parts::write_u16;
+use crate::parts::write_u64;
+use crate::values::answer_numbers;
+use crate::values::answer_of;
+use crate::values::is_answer;
+use crate::values::order_number;
+use crate::values::over_number;
+use crate::values::stage_number;
+use crate::values::stage_of;
+use crate::values::threads_number;
+use crate::values::threads_of;
+use fdr::form::Form;
+use replay::stream::Stream;
+
+pub const LENGTH: usize = 5682;
+
+// Whether numbers stand for a state.
+pub fn stands(numbers: &[u64]) -> bool
+    requires { ⌜ stateLength ≤ length (now numbers) ⌝ }
+    ensures { λ r. ⌜ r ≡ stands (now (numbers .entry)) ⌝ }
+{
+    if 2 <= numbers[0] {
+        return false;
+    }
+    if 5 <= numbers[5] {
+        return false;
+    }
+    if 65537 <= numbers[6] {
+        return false;
+    }
+    if 2 <= numbers[12] {
+        return false;
+    }
+    let answered = is_answer(numbers[13]);
+    if !answered {
+        return false;
+    }
+    let bytes = all_below(numbers, 274, 32, 256);
+    if !bytes {
+        return false;
+    }
+    all_below(numbers, 306, 5376, 65536)
+}
+
+// The state for which numbers stand.
+pub fn unpack(numbers: &[u64]) -> Stream
+    requires { ⌜ (stateLength ≤ length (now numbers)) × (stands (now numbers) ≡ true) ⌝ }
+    ensures { λ r. ⌜ r ≡ streamOf (now (numbers .entry)) ⌝ }
+{
+    let mut since = [0u64; 256];
+    read_u64(numbers, 18, &mut since);
+    let mut held = [0u8; 32];
+    read_u8(numbers, 274, &mut held);
+    let mut row = [0u16; 256];
+    read_u16(numbers, 306, &mut row);
+    let mut index = [0u16; 1024];
+    read_u16(numbers, 562, &mut index);
+    let mut cache = [0u16; 4096];
+    read_u16(numbers, 1586, &mut cache);
+    let form = Form::named(numbers[0] as u32);
+    let offset = numbers[1];
+    let buffer_size = numbers[2];
+    let skip = numbers[3];
+    let count = numbers[4];
+    let stage = stage_of(numbers[5]);
+    let threads = threads_of(numbers[6]);
+    let depth = numbers[7] as usize;
+    let clock = numbers[8];
+    let rows = numbers[9] as usize;
+    let records = numbers[10];
+    let buffers = numbers[11];
+    let over = numbers[12] == 1;
+    let answer = answer_of(
+        numbers[13],
+        numbers[14],
+        numbers[15],
+        numbers[16],
+        numbers[17],
+    );
+    Stream {
+        form,
+        offset,
+        buffer_size,
+        skip,
+        held,
+        count,
+        stage,
+        threads,
+        row,
+        since,
+        depth,
+        clock,
+        rows,
+        records,
+        buffers,
+        index,
+        cache,
+        over,
+        answer,
+    }
+}
+
+fn scalars(x: Stream) -> [u64; 13]
+    ensures { λ r. ⌜ r ≡ scalars x ⌝ }
+    ensures { λ r. ⌜ threadsNumber (x .threads) < 65537 ⌝ }
+{
+    let form = x.form;
+    let order = form.order;
+    let stage = x.stage;
+    let threads = x.threads;
+    let first = order_number(order);
+    let place = stage_number(stage);
+    let seen = threads_number(threads);
+    let over = over_number(x.over);
+    [
+        first,
+        x.offset,
+        x.buffer_size,
+        x.skip,
+        x.count,
+        place,
+        seen,
+        x.depth as u64,
+        x.clock,
+        x.rows as u64,
+        x.records,
+        x.buffers,
+        over,
+    ]
+}
+
+// The numbers of a state, in front of what is lent behind them.
+pub fn pack(x: Stream, numbers: &mut [u64])
+    requires { ⌜ stateLength ≤ length (now numbers) ⌝ }
+    ensures { λ _. ⌜ Kept x (now (numbers .entry)) (now (numbers .exit)) ⌝ }
+{
+    let answer = x.answer;
+    let first = scalars(x);
+    let told = answer_numbers(answer);
+    write_u64(numbers, 0, &first);
+    write_u64(numbers, 13, &told);
+    write_u64(numbers, 18, &x.since);
+    write_u8(numbers, 274, &x.held);
+    write_u16(numbers, 306, &x.row);
+    write_u16(numbers, 562, &x.index);
+    write_u16(numbers, 1586, &x.cache);
+}
