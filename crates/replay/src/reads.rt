@@ -67,7 +67,7 @@ fn on(way: Way, more: usize, skip: u64, count: u64) -> Way
     }
 }
 
-fn least(a: u64, b: u64) -> u64
+pub fn least(a: u64, b: u64) -> u64
     ensures { λ r. ⌜ r ≡ min a b ⌝ }
 {
     if a < b {
@@ -143,7 +143,7 @@ fn weigh(read: &[u8], held: &[u8; 32], way: Way, room: u64, base: u64) -> Sight
 
 // Puts bytes of a read behind those that are held, until so many are held or the read is over. The answer says how many are
 // held then.
-fn fill(read: &[u8], held: &mut [u8; 32], place: usize, count: usize, wanted: usize) -> usize
+pub fn fill(read: &[u8], held: &mut [u8; 32], place: usize, count: usize, wanted: usize) -> usize
     requires { ⌜ (place ≤ length (now read)) × (count ≤ wanted) × (wanted ≤ length (now held)) × (length (now held) ≡ 32) ⌝ }
     ensures { λ r. ⌜ Filled (now (read .entry)) (now (held .entry)) place count wanted r (now (held .exit)) ⌝ }
 {

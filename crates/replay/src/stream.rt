@@ -5,7 +5,8 @@ ghost use mathlib.Core.List.{List};
 ghost use Prim.Native.Nat.{ℕ, _≤_};
 ghost use lib.ListN.{length};
 ghost use Rattle.replay.specs.Row.{cells};
-ghost use Rattle.replay.specs.State.{viewed, goingSound, stateSound, tableSound, sayingOf, told, Advanced, Blank, Ended, Reportable, reportOf, EndDoes};
+ghost use Rattle.replay.specs.State.{viewed, goingSound, stateSound, tableSound, sayingOf, told, Advanced, Blank, Ended, Reportable, reportOf, FeedDoes, EndDoes};
+ghost use Rattle.replay.specs.Packing.{Tests};
 ghost use Rattle.fdr.specs.Walk.{inFront};
 ghost use Rattle.replay.specs.Stream.{fresh, stop, endTold};
 ghost use Rattle.replay.specs.Replay.{refusal, verdictOf};
@@ -22,7 +23,10 @@ use crate::check_rows::entries_within;
 use crate::check_rows::ids_rise;
 use crate::check_rows::rows_sound;
 use crate::check_rows::still_open;
+use crate::feed::heading;
+use crate::feed::records;
 use crate::row::CELLS;
+use crate::table::LARGEST;
 use crate::table::clear;
 use crate::table::clear_behind;
 use fdr::form::Form;
@@ -142,8 +146,18 @@ fn table_sound(x: Stream, table: &[u64]) -> bool
     ids_rise(&x.index, table, x.rows)
 }
 
+// The answer of a stream that has none yet.
+pub fn none() -> Answer {
+    Answer::Report {
+        rows: 0,
+        buffers: 0,
+        records: 0,
+        open: 0,
+    }
+}
+
 // A state with nothing in it but these: in front of the first byte, or ended.
-fn blank(form: Form, offset: u64, over: bool, answer: Answer) -> Stream
+pub fn blank(form: Form, offset: u64, over: bool, answer: Answer) -> Stream
     ensures { λ r. ⌜ Blank form offset over answer r ⌝ }
 {
     Stream {
@@ -179,35 +193,68 @@ fn ended(form: Form, offset: u64, answer: Answer) -> Fed
     }
 }
 
+// What the tests of a call say: it goes on, or it changes nothing and has this answer.
+pub enum Tested {
+    Passed,
+    Stays(Answer),
+}
+
+fn staying(why: Refusal) -> Tested
+    ensures { λ r. ⌜ r ≡ Tested.Stays (Answer.Refused why 0) ⌝ }
+{
+    Tested::Stays(Answer::Refused {
+        refusal: why,
+        place: 0,
+    })
+}
+
+// The tests that come before the bytes and before the end.
+fn test(x: Stream, table: &[u64]) -> Tested
+    ensures { λ r. ⌜ Tests x (now (table .entry)) r ⌝ }
+{
+    let sound = state_sound(x);
+    if !sound {
+        return staying(Refusal::Unsound);
+    }
+    if x.over {
+        let answer = x.answer;
+        return Tested::Stays(answer);
+    }
+    if table.len() < CELLS {
+        return staying(Refusal::ShortTable);
+    }
+    let rows = table_sound(x, table);
+    if !rows {
+        return staying(Refusal::Unsound);
+    }
+    Tested::Passed
+}
+
 // A call that changes nothing.
-fn stay(stream: Stream, why: Refusal) -> Fed
+fn stay(stream: Stream, answer: Answer) -> Fed
     ensures { λ r. ⌜ r .stream ≡ stream ⌝ }
-    ensures { λ r. ⌜ sayingOf (r .reply) ≡ told (refusal (numberOf why) 0) ⌝ }
+    ensures { λ r. ⌜ sayingOf (r .reply) ≡ told (verdictOf answer) ⌝ }
 {
     Fed {
         stream,
-        reply: Reply::Told(Answer::Refused {
-            refusal: why,
-            place: 0,
-        }),
+        reply: Reply::Told(answer),
     }
 }
 
-impl Stream {
-    // The stream is refused: no row is left.
-    fn refuse(self, table: &mut [u64], why: Refusal, place: u64) -> Fed
-        requires { ⌜ (cells ≤ length (now table)) × (isIn (numberOf why) ofStream ≡ true) × (place ≤ self .offset) ⌝ }
-        ensures { λ r. ⌜ Advanced (stop (numberOf why) place) (now (table .entry)) r (now (table .exit)) ⌝ }
-    {
-        clear(table);
-        let form = self.form;
-        let answer = Answer::Refused {
-            refusal: why,
-            place,
-        };
-        ended(form, self.offset, answer)
-    }
+// The stream is refused: no row is left.
+pub fn refused(form: Form, offset: u64, table: &mut [u64], why: Refusal, place: u64) -> Fed
+    requires { ⌜ (cells ≤ length (now table)) × (isIn (numberOf why) ofStream ≡ true) × (place ≤ offset) ⌝ }
+    ensures { λ r. ⌜ Advanced (stop (numberOf why) place) (now (table .entry)) r (now (table .exit)) ⌝ }
+{
+    clear(table);
+    let answer = Answer::Refused {
+        refusal: why,
+        place,
+    };
+    ended(form, offset, answer)
+}
 
+impl Stream {
     // The stream is over: what it came to.
     fn report(self, table: &mut [u64]) -> Fed
         requires { ⌜ Reportable self (now table) ⌝ }
@@ -229,40 +276,46 @@ impl Stream {
         requires { ⌜ (stateSound self ≡ true) × (self .over ≡ false) × (cells ≤ length (now table)) ⌝ }
         ensures { λ r. ⌜ Advanced (endTold (viewed self (now (table .entry)))) (now (table .entry)) r (now (table .exit)) ⌝ }
     {
+        let form = self.form;
         if self.offset < 32 {
-            return self.refuse(table, Refusal::LogLength, 0);
+            return refused(form, self.offset, table, Refusal::LogLength, 0);
         }
         let stage = self.stage;
         if in_front(stage) {
             if self.skip == self.count {
                 return self.report(table);
             }
-            return self.refuse(table, Refusal::BufferSize, 0);
+            return refused(form, self.offset, table, Refusal::BufferSize, 0);
         }
-        self.refuse(table, Refusal::BufferSize, 0)
+        refused(form, self.offset, table, Refusal::BufferSize, 0)
+    }
+
+    // Feeds bytes.
+    pub fn feed(self, read: &[u8], table: &mut [u64]) -> Fed
+        ensures { λ r. ⌜ FeedDoes self (now (read .entry)) (now (table .entry)) r (now (table .exit)) ⌝ }
+    {
+        let tested = test(self, table);
+        if let Tested::Stays(answer) = tested {
+            return stay(self, answer);
+        }
+        let form = self.form;
+        if LARGEST - self.offset < read.len() as u64 {
+            return refused(form, self.offset, table, Refusal::Offset, self.offset);
+        }
+        if self.offset < 32 {
+            let held = self.held;
+            return heading(form, held, self.offset as usize, read, table);
+        }
+        records(self, read, 0, table)
     }
 
     // Tells the end.
     pub fn end(self, table: &mut [u64]) -> Fed
         ensures { λ r. ⌜ EndDoes self (now (table .entry)) r (now (table .exit)) ⌝ }
     {
-        let sound = state_sound(self);
-        if !sound {
-            return stay(self, Refusal::Unsound);
-        }
-        if self.over {
-            let answer = self.answer;
-            return Fed {
-                stream: self,
-                reply: Reply::Told(answer),
-            };
-        }
-        if table.len() < CELLS {
-            return stay(self, Refusal::ShortTable);
-        }
-        let rows = table_sound(self, table);
-        if !rows {
-            return stay(self, Refusal::Unsound);
+        let tested = test(self, table);
+        if let Tested::Stays(answer) = tested {
+            return stay(self, answer);
         }
         self.told_end(table)
     }
@@ -272,12 +325,7 @@ impl Stream {
         ensures { λ r. ⌜ ((table : List ℕ) → viewed r table ≡ fresh form) ⌝ }
         ensures { λ r. ⌜ stateSound r ≡ true ⌝ }
     {
-        let none = Answer::Report {
-            rows: 0,
-            buffers: 0,
-            records: 0,
-            open: 0,
-        };
-        blank(form, 0, false, none)
+        let answer = none();
+        blank(form, 0, false, answer)
     }
 }

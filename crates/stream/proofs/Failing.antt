@@ -13,9 +13,10 @@ use Rattle.fdr.specs.Header.{Opening, passed, failed, headerOf, openedWithin, t
 use Rattle.fdr.specs.declared.form.Form.{Form}
 use Rattle.fdr.proofs.Numbers.{Agree, number-agree}
 use Rattle.fdr.proofs.Opening.{sizesRight, too-short, other-version, other-type, no-buffers, opens}
+use Rattle.replay.proofs.Headers.{up-to}
 use Rattle.replay.specs.Stream.{Stream, heading, going, fresh, stop, behindHeader, headed, advanced, take1, fed, endTold}
 use Rattle.replay.proofs.Taking.{fed-ended}
-use Rattle.stream.proofs.Heading.{up-to, header-fed}
+use Rattle.stream.proofs.Heading.{header-fed}
 
 module _ (f : Form) where
   -- "an end before it is 1"
@@ -44,7 +45,7 @@ module _ (f : Form) where
         let last : headed f (take 32 s) ≡ stop n 0 =
         rw (le-ltb (length (take 32 s)) 32 (omega (arith, first-long)), headed)
         (ap (λ (o : Opening). elim o [ passed h ↦ going (behindHeader f h) | failed k ↦ stop k 0 ]) e) in
-        ap endTold (up-to f s long 31 0 (omega arith)) ∙ stays-stopped (headed f (take 32 s)) n (drop 32 s) last
+        ap endTold (up-to f s 31 0 (omega arith) long) ∙ stays-stopped (headed f (take 32 s)) n (drop 32 s) last
 
     version-fails : (number (f .order) 2 s 0 ≡ 1 → ⊥) → endTold (fed (fresh f) s) ≡ stop 2 0
     version-fails v =

@@ -1,22 +1,23 @@
--- The header's 32 bytes, one by one; and that a log which passes test 4 has whole buffers behind them. Assumes nothing.
-use Prim.Native.Nat.{ℕ, zero, suc, _+_, _-_, _*_, _/_, _%_, _<_, _≤_}
+-- What the header's 32 bytes come to; and that a log which passes test 4 has whole buffers behind them. Assumes nothing.
+use Prim.Native.Nat.{ℕ, _+_, _-_, _*_, _/_, _%_, _<_, _≤_}
 use mathlib.Core.Path.{_≡_, refl, sym, ap, _∙_, subst}
-use mathlib.Core.Bool.{Bool, true, false, not, _&&_, _||_, true≢false}
-use mathlib.Core.List.{List, [], _∷_, _++_}
-use native.Mathlib.Nat.{div-add-mod', zero-add}
+use mathlib.Core.Bool.{Bool, true, false, not, _||_, true≢false}
+use mathlib.Core.List.{List}
+use native.Mathlib.Nat.{div-add-mod'}
 use native.Mathlib.Omega.{arith}
 use borrow.Author.Tests.{lt-ltb, le-ltb, ltb-false, eqb-true}
 use lib.Dec.{eqb, ltb}
-use lib.ListN.{length, take, drop, getD}
-use lib.Seq.{take-suc, drop-cons, getD-take, length-take-le}
-use Rattle.fdr.specs.Number.{byteAt, number}
+use lib.ListN.{length, take, drop}
+use lib.Seq.{getD-take, length-take-le}
+use Rattle.fdr.specs.Number.{number}
 use Rattle.fdr.specs.Header.{Opening, passed, failed, headerOf, openedWithin, tooSmall, uneven}
 use Rattle.fdr.specs.declared.form.Form.{Form}
 use Rattle.fdr.specs.declared.header.Header.{Header}
 use Rattle.refusal.proofs.Cases.{by-lt, by-eq, clash}
 use Rattle.fdr.proofs.Numbers.{Agree, number-agree}
 use Rattle.fdr.proofs.Opening.{sizesRight, other-version, other-type, no-buffers, opens, passed-long}
-use Rattle.replay.specs.Stream.{Stream, heading, going, stop, fresh, behindHeader, headed, take1, fed}
+use Rattle.replay.proofs.Headers.{up-to}
+use Rattle.replay.specs.Stream.{Stream, going, stop, fresh, behindHeader, headed, fed}
 
 -- What tests 1 to 4 leave.
 pub record Opens (form : Form) (s : List ℕ) (h : Header) : Type 0 where
@@ -100,28 +101,11 @@ module _ (form : Form) (s : List ℕ) (long : 32 ≤ length s) where
       sym (opens form (length first) first (omega (arith, first-long)) (omega arith) version type (bare (length first) (number (form .order) 8 first 16) first-long))
       ∙ ap passed header-same
 
-  headed-on : (i : ℕ) → suc i < 32 → headed form (take (suc i) s) ≡ heading form (take (suc i) s)
-  unfolding headed
-  headed-on i l = rw (lt-ltb (length (take (suc i) s)) 32 (omega (arith, length-take-le (suc i) s (omega arith))), headed)
-
   headed-last : number (form .order) 2 s 0 ≡ 1 → number (form .order) 2 s 2 ≡ 1 → headed form (take 32 s) ≡ going (behindHeader form (headerOf form s))
   unfolding headed first
   headed-last v t =
       rw (le-ltb (length (take 32 s)) 32 (omega (arith, first-long)), headed)
       (ap (λ (o : Opening). elim o [ passed h ↦ going (behindHeader form h) | failed n ↦ stop n 0 ]) (header-passes v t))
 
-  one : (i : ℕ) → i < 32 → fed (heading form (take i s)) (drop i s) ≡ fed (headed form (take (suc i) s)) (drop (suc i) s)
-  unfolding take1 fed
-  one i l =
-      ap (fed (heading form (take i s))) (drop-cons s i 0 (omega arith))
-      ∙ ap (λ (x : List ℕ). fed (headed form x) (drop (suc i) s)) (sym (take-suc s i 0 (omega arith)))
-
-  pub up-to : (n i : ℕ) → i + n ≡ 31 → fed (heading form (take i s)) (drop i s) ≡ fed (headed form (take 32 s)) (drop 32 s)
-  up-to zero i e = let there : suc i ≡ 32 = omega arith in one i (omega arith) ∙ ap (λ (k : ℕ). fed (headed form (take k s)) (drop k s)) there
-  up-to (suc n) i e =
-      one i (omega arith)
-      ∙ ap (λ (x : Stream). fed x (drop (suc i) s)) (headed-on i (omega arith))
-      ∙ up-to n (suc i) (omega arith)
-
   pub header-fed : number (form .order) 2 s 0 ≡ 1 → number (form .order) 2 s 2 ≡ 1 → fed (fresh form) s ≡ fed (going (behindHeader form (headerOf form s))) (drop 32 s)
-  header-fed v t = up-to 31 0 (omega arith) ∙ ap (λ (x : Stream). fed x (drop 32 s)) (headed-last v t)
+  header-fed v t = up-to form s 31 0 (omega arith) long ∙ ap (λ (x : Stream). fed x (drop 32 s)) (headed-last v t)

@@ -6,8 +6,12 @@ use Rattle.replay.proofs.CheckingState.{advanced-as, end-heading, repor
 use Rattle.replay.proofs.stream.Stream.told_end.Statement.{statement}
 use Rattle.replay.proofs.stream.Stream.told_end.Tie as tie
 
-refuse-requires : tie.Need-refuse-requires
-refuse-requires c κs = (c .before .before .before .before .pre .2, refl, omega arith)
+-- The header is behind.
+abbrev start : tie.Else1 → tie.Start
+start d = d .before .before .before .before
+
+refused-requires : tie.Need-refused-requires
+refused-requires c κs = (c .before .before .before .before .before .pre .2, refl, omega arith)
 
 same-length : tie.Need-same-length
 same-length c = search needs
@@ -15,8 +19,8 @@ same-length c = search needs
 returns : tie.Need-returns
 returns c =
     let d = c .before .before .before .before in
-    let p = d .before .before .before .pre in
-    advanced-as _ _ _ _ _ (end-heading _ _ (p .0) (p .1) (d .if1 .taken)) (c .before .before .refuse .ensures)
+    let p = d .before .before .before .before .pre in
+    advanced-as _ _ _ _ _ (end-heading _ _ (p .0) (p .1) (d .if1 .taken)) (c .before .before .refused .ensures)
 
 in-front-requires : tie.Need-in-front-requires
 in-front-requires c κs = search needs
@@ -24,7 +28,7 @@ in-front-requires c κs = search needs
 report-requires : tie.Need-report-requires
 report-requires c κs =
     let d = c .before .before .before .before .before in
-    let p = d .before .before .before .pre in
+    let p = start d .pre in
     reportable _ _ (p .0) (p .1) (d .if1 .left) (p .2)
 
 same-length-2 : tie.Need-same-length-2
@@ -35,11 +39,11 @@ returns-2 c =
     let f = c .before .before .before .before in
     let g = f .before .before in
     let d = g .before .before in
-    let p = d .before .before .before .pre in
+    let p = start d .pre in
     advanced-as _ _ _ _ _ (end-front _ _ (p .0) (p .1) (d .if1 .left) (sym (g .before .in-front .ensures) ∙ g .if2 .taken) (f .if3 .taken)) (c .before .before .report .ensures)
 
-refuse-requires-2 : tie.Need-refuse-requires-2
-refuse-requires-2 c κs = (c .before .before .before .before .before .before .before .before .pre .2, refl, omega arith)
+refused-requires-2 : tie.Need-refused-requires-2
+refused-requires-2 c κs = (start (c .before .before .before .before .before) .pre .2, refl, omega arith)
 
 same-length-3 : tie.Need-same-length-3
 same-length-3 c = search needs
@@ -49,11 +53,11 @@ returns-3 c =
     let f = c .before .before .before .before in
     let g = f .before .before in
     let d = g .before .before in
-    let p = d .before .before .before .pre in
-    advanced-as _ _ _ _ _ (end-ahead _ _ (p .0) (p .1) (d .if1 .left) (sym (g .before .in-front .ensures) ∙ g .if2 .taken) (f .if3 .left)) (c .before .before .refuse2 .ensures)
+    let p = start d .pre in
+    advanced-as _ _ _ _ _ (end-ahead _ _ (p .0) (p .1) (d .if1 .left) (sym (g .before .in-front .ensures) ∙ g .if2 .taken) (f .if3 .left)) (c .before .before .refused2 .ensures)
 
-refuse-requires-3 : tie.Need-refuse-requires-3
-refuse-requires-3 c κs = (c .before .before .before .before .before .before .pre .2, refl, omega arith)
+refused-requires-3 : tie.Need-refused-requires-3
+refused-requires-3 c κs = (start (c .before .before .before) .pre .2, refl, omega arith)
 
 same-length-4 : tie.Need-same-length-4
 same-length-4 c = search needs
@@ -62,10 +66,10 @@ returns-4 : tie.Need-returns-4
 returns-4 c =
     let g = c .before .before .before .before in
     let d = g .before .before in
-    let p = d .before .before .before .pre in
-    advanced-as _ _ _ _ _ (end-inner _ _ (p .0) (p .1) (d .if1 .left) (sym (g .before .in-front .ensures) ∙ g .if2 .left)) (c .before .before .refuse3 .ensures)
+    let p = start d .pre in
+    advanced-as _ _ _ _ _ (end-inner _ _ (p .0) (p .1) (d .if1 .left) (sym (g .before .in-front .ensures) ∙ g .if2 .left)) (c .before .before .refused3 .ensures)
 
 pub told-end-spec : {M : Type 1} → statement M
 told-end-spec =
     tie.close
-    (tie.spec refuse-requires same-length returns in-front-requires report-requires same-length-2 returns-2 refuse-requires-2 same-length-3 returns-3 refuse-requires-3 same-length-4 returns-4)
+    (tie.spec refused-requires same-length returns in-front-requires report-requires same-length-2 returns-2 refused-requires-2 same-length-3 returns-3 refused-requires-3 same-length-4 returns-4)
