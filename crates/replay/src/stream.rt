@@ -75,7 +75,7 @@ pub struct Fed {
     pub reply: Reply,
 }
 
-pub fn in_front(stage: Stage) -> bool
+pub(crate) fn in_front(stage: Stage) -> bool
     ensures { λ r. ⌜ r ≡ inFront stage ⌝ }
 {
     if let Stage::Between = stage {
@@ -147,7 +147,7 @@ fn table_sound(x: Stream, table: &[u64]) -> bool
 }
 
 // The answer of a stream that has none yet.
-pub fn none() -> Answer {
+pub(crate) fn none() -> Answer {
     Answer::Report {
         rows: 0,
         buffers: 0,
@@ -157,7 +157,7 @@ pub fn none() -> Answer {
 }
 
 // A state with nothing in it but these: in front of the first byte, or ended.
-pub fn blank(form: Form, offset: u64, over: bool, answer: Answer) -> Stream
+pub(crate) fn blank(form: Form, offset: u64, over: bool, answer: Answer) -> Stream
     ensures { λ r. ⌜ Blank form offset over answer r ⌝ }
 {
     Stream {
@@ -242,7 +242,7 @@ fn stay(stream: Stream, answer: Answer) -> Fed
 }
 
 // The stream is refused: no row is left.
-pub fn refused(form: Form, offset: u64, table: &mut [u64], why: Refusal, place: u64) -> Fed
+pub(crate) fn refused(form: Form, offset: u64, table: &mut [u64], why: Refusal, place: u64) -> Fed
     requires { ⌜ (cells ≤ length (now table)) × (isIn (numberOf why) ofStream ≡ true) × (place ≤ offset) ⌝ }
     ensures { λ r. ⌜ Advanced (stop (numberOf why) place) (now (table .entry)) r (now (table .exit)) ⌝ }
 {
