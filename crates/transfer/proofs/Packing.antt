@@ -30,7 +30,7 @@ use Rattle.transfer.specs.declared.naming.Named.{Named}
 use Rattle.transfer.specs.declared.naming.Named.the-variants.{Known, Unknown}
 use Rattle.transfer.proofs.Copying.{below-all}
 use Rattle.transfer.proofs.Laying.{five, p1, p2, p3, p4, p5}
-use Rattle.transfer.proofs.Standing.{made}
+use Rattle.transfer.proofs.Standing.{arrays, others}
 
 -- Each part that is no number is its own number's.
 named-back : (r : Refusal) → namedBy (numberOf r) ≡ Known r
@@ -200,7 +200,8 @@ module _ (x : Stream) (t : Typed x) (rest : List ℕ) where
   pub unpacked : streamOf all-numbers ≡ x
   unpacked =
       sym
-      (made all-numbers (x .form) (x .held) (x .row) (x .since) (x .index) (x .cache) (x .stage) (x .threads) (x .over) (x .answer) (sym (order-back (x .form .order))) (sym held-at) (sym row-at) (sym since-at) (sym index-at) (sym cache-at) (sym (stage-back (x .stage))) (sym (threads-back (x .threads))) (sym (over-back (x .over))) (sym (answer-back (x .answer) (x .since) (x .held) (x .row) (x .index) (x .cache) rest)))
+      (others all-numbers (x .since) (x .held) (x .row) (x .index) (x .cache) (x .form) (x .stage) (x .threads) (x .over) (x .answer) (sym (order-back (x .form .order))) (sym (stage-back (x .stage))) (sym (threads-back (x .threads))) (sym (over-back (x .over))) (sym (answer-back (x .answer) (x .since) (x .held) (x .row) (x .index) (x .cache) rest))
+      ∙ arrays all-numbers (x .since) (x .held) (x .row) (x .index) (x .cache) (sym since-at) (sym held-at) (sym row-at) (sym index-at) (sym cache-at))
 
   pub standing : stands all-numbers ≡ true
   unfolding stands

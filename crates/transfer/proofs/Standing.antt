@@ -17,7 +17,7 @@ use Rattle.replay.specs.State.{allBelow}
 use Rattle.replay.specs.declared.Answer.{Answer}
 use Rattle.replay.specs.declared.stream.Stream.{Stream}
 use Rattle.replay.proofs.CheckingState.{both}
-use Rattle.transfer.specs.Numbers.{namedBy, isKnown, stageOf, threadsOf, answerBy, streamOf, stands}
+use Rattle.transfer.specs.Numbers.{namedBy, isKnown, stageOf, threadsOf, answerIn, streamWith, streamOf, stands}
 use Rattle.transfer.proofs.Copying.{under, below-all}
 
 -- A part of a run.
@@ -44,7 +44,11 @@ stood s e =
     let g = both (eqb (getD s 13 0) 0 || isKnown (namedBy (getD s 13 0))) (allBelow 32 (drop 274 s) 256 && allBelow 5376 (drop 306 s) 65536) (d .1) in
     record { order = ltb-true (getD s 0 0) 2 (a .0); thread = ltb-true (getD s 6 0) 65537 (c .0); bytes = f (g .1) .0; rows = f (g .1) .1 }
 
--- The state, part by part.
-pub made : (s : List ℕ) (f : Form) (held row since index cache : List ℕ) (g : Stage) (t : Threads) (over : Bool) (a : Answer) → f ≡ formOf (getD s 0 0) → held ≡ take 32 (drop 274 s) → row ≡ take 256 (drop 306 s) → since ≡ take 256 (drop 18 s) → index ≡ take 1024 (drop 562 s) → cache ≡ take 4096 (drop 1586 s) → g ≡ stageOf (getD s 5 0) → t ≡ threadsOf (getD s 6 0) → over ≡ eqb (getD s 12 0) 1 → a ≡ answerBy (namedBy (getD s 13 0)) (getD s 14 0) (getD s 15 0) (getD s 16 0) (getD s 17 0) → _≡_ {A = Stream} (record { form = f; offset = getD s 1 0; «buffer_size» = getD s 2 0; skip = getD s 3 0; held = held; count = getD s 4 0; stage = g; threads = t; row = row; since = since; depth = getD s 7 0; clock = getD s 8 0; rows = getD s 9 0; records = getD s 10 0; buffers = getD s 11 0; index = index; cache = cache; over = over; answer = a }) (streamOf s)
+-- The arrays of a state.
+pub arrays : (s since held row index cache : List ℕ) → since ≡ take 256 (drop 18 s) → held ≡ take 32 (drop 274 s) → row ≡ take 256 (drop 306 s) → index ≡ take 1024 (drop 562 s) → cache ≡ take 4096 (drop 1586 s) → streamWith s since held row index cache ≡ streamOf s
 unfolding streamOf
-made s f held row since index cache g t o a e1 e2 e3 e4 e5 e6 e7 e8 e9 e10 = rw (e1, e2, e3, e4, e5, e6, e7, e8, e9, e10)
+arrays s since held row index cache e1 e2 e3 e4 e5 = rw (e1, e2, e3, e4, e5)
+
+-- Its other parts.
+pub others : (s since held row index cache : List ℕ) (f : Form) (g : Stage) (t : Threads) (over : Bool) (a : Answer) → f ≡ formOf (getD s 0 0) → g ≡ stageOf (getD s 5 0) → t ≡ threadsOf (getD s 6 0) → over ≡ eqb (getD s 12 0) 1 → a ≡ answerIn s → _≡_ {A = Stream} (record { form = f; offset = getD s 1 0; «buffer_size» = getD s 2 0; skip = getD s 3 0; held = held; count = getD s 4 0; stage = g; threads = t; row = row; since = since; depth = getD s 7 0; clock = getD s 8 0; rows = getD s 9 0; records = getD s 10 0; buffers = getD s 11 0; index = index; cache = cache; over = over; answer = a }) (streamWith s since held row index cache)
+others s since held row index cache f g t over a e1 e2 e3 e4 e5 = rw (e1, e2, e3, e4, e5)

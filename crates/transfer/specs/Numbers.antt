@@ -89,29 +89,37 @@ scalars x =
 abbrev pub numbersOf : Stream → List ℕ
 numbersOf x = (((((scalars x ++ answerNumbers (x .answer)) ++ x .since) ++ x .held) ++ x .row) ++ x .index) ++ x .cache
 
--- The state for which numbers stand.
-unfoldable pub streamOf : List ℕ → Stream
-streamOf s = record {
+-- The answer among numbers.
+abbrev pub answerIn : List ℕ → Answer
+answerIn s = answerBy (namedBy (getD s 13 0)) (getD s 14 0) (getD s 15 0) (getD s 16 0) (getD s 17 0)
+
+-- The state of numbers, with these for its arrays.
+abbrev pub streamWith : (s since held row index cache : List ℕ) → Stream
+streamWith s since held row index cache = record {
   form = formOf (getD s 0 0);
   offset = getD s 1 0;
   «buffer_size» = getD s 2 0;
   skip = getD s 3 0;
-  held = take 32 (drop 274 s);
+  held = held;
   count = getD s 4 0;
   stage = stageOf (getD s 5 0);
   threads = threadsOf (getD s 6 0);
-  row = take 256 (drop 306 s);
-  since = take 256 (drop 18 s);
+  row = row;
+  since = since;
   depth = getD s 7 0;
   clock = getD s 8 0;
   rows = getD s 9 0;
   records = getD s 10 0;
   buffers = getD s 11 0;
-  index = take 1024 (drop 562 s);
-  cache = take 4096 (drop 1586 s);
+  index = index;
+  cache = cache;
   over = eqb (getD s 12 0) 1;
-  answer = answerBy (namedBy (getD s 13 0)) (getD s 14 0) (getD s 15 0) (getD s 16 0) (getD s 17 0);
+  answer = answerIn s;
 }
+
+-- The state for which numbers stand.
+unfoldable pub streamOf : List ℕ → Stream
+streamOf s = streamWith s (take 256 (drop 18 s)) (take 32 (drop 274 s)) (take 256 (drop 306 s)) (take 1024 (drop 562 s)) (take 4096 (drop 1586 s))
 
 -- Whether numbers stand for a state: an order, a stage, a thread of 16 bits, a flag, an answer, bytes, and rows of 16 bits.
 -- Any number does elsewhere.

@@ -3,7 +3,7 @@ ghost use mathlib.Core.Path.{_≡_};
 ghost use mathlib.Core.Bool.{true};
 ghost use Prim.Native.Nat.{_<_, _≤_};
 ghost use lib.ListN.{length};
-ghost use Rattle.transfer.specs.Numbers.{threadsNumber, stateLength, scalars, streamOf, stands, Kept};
+ghost use Rattle.transfer.specs.Numbers.{threadsNumber, answerIn, stateLength, scalars, streamWith, streamOf, stands, Kept};
 use crate::parts::all_below;
 use crate::parts::read_u8;
 use crate::parts::read_u16;
@@ -21,6 +21,7 @@ use crate::values::stage_of;
 use crate::values::threads_number;
 use crate::values::threads_of;
 use fdr::form::Form;
+use replay::Answer;
 use replay::stream::Stream;
 
 pub const LENGTH: usize = 5682;
@@ -53,6 +54,53 @@ pub fn stands(numbers: &[u64]) -> bool
     all_below(numbers, 306, 5376, 65536)
 }
 
+fn answer_in(numbers: &[u64]) -> Answer
+    requires { ⌜ stateLength ≤ length (now numbers) ⌝ }
+    ensures { λ r. ⌜ r ≡ answerIn (now (numbers .entry)) ⌝ }
+{
+    let kind = numbers[13];
+    answer_of(kind, numbers[14], numbers[15], numbers[16], numbers[17])
+}
+
+// The state of numbers with these arrays.
+fn with_arrays(
+    numbers: &[u64],
+    since: [u64; 256],
+    held: [u8; 32],
+    row: [u16; 256],
+    index: [u16; 1024],
+    cache: [u16; 4096],
+) -> Stream
+    requires { ⌜ (stateLength ≤ length (now numbers)) × (stands (now numbers) ≡ true) ⌝ }
+    ensures { λ r. ⌜ r ≡ streamWith (now (numbers .entry)) since held row index cache ⌝ }
+{
+    let answer = answer_in(numbers);
+    let form = Form::named(numbers[0] as u32);
+    let stage = stage_of(numbers[5]);
+    let threads = threads_of(numbers[6]);
+    Stream {
+        form,
+        offset: numbers[1],
+        buffer_size: numbers[2],
+        skip: numbers[3],
+        held,
+        count: numbers[4],
+        stage,
+        threads,
+        row,
+        since,
+        depth: numbers[7] as usize,
+        clock: numbers[8],
+        rows: numbers[9] as usize,
+        records: numbers[10],
+        buffers: numbers[11],
+        index,
+        cache,
+        over: numbers[12] == 1,
+        answer,
+    }
+}
+
 // The state for which numbers stand.
 pub fn unpack(numbers: &[u64]) -> Stream
     requires { ⌜ (stateLength ≤ length (now numbers)) × (stands (now numbers) ≡ true) ⌝ }
@@ -68,47 +116,7 @@ pub fn unpack(numbers: &[u64]) -> Stream
     read_u16(numbers, 562, &mut index);
     let mut cache = [0u16; 4096];
     read_u16(numbers, 1586, &mut cache);
-    let form = Form::named(numbers[0] as u32);
-    let offset = numbers[1];
-    let buffer_size = numbers[2];
-    let skip = numbers[3];
-    let count = numbers[4];
-    let stage = stage_of(numbers[5]);
-    let threads = threads_of(numbers[6]);
-    let depth = numbers[7] as usize;
-    let clock = numbers[8];
-    let rows = numbers[9] as usize;
-    let records = numbers[10];
-    let buffers = numbers[11];
-    let over = numbers[12] == 1;
-    let answer = answer_of(
-        numbers[13],
-        numbers[14],
-        numbers[15],
-        numbers[16],
-        numbers[17],
-    );
-    Stream {
-        form,
-        offset,
-        buffer_size,
-        skip,
-        held,
-        count,
-        stage,
-        threads,
-        row,
-        since,
-        depth,
-        clock,
-        rows,
-        records,
-        buffers,
-        index,
-        cache,
-        over,
-        answer,
-    }
+    with_arrays(numbers, since, held, row, index, cache)
 }
 
 fn scalars(x: Stream) -> [u64; 13]
