@@ -3,3 +3,4 @@ pub mod Standing
 pub mod Laying
 pub mod Packing
 pub mod Calling
+pub mod Repacking

@@ -25,7 +25,7 @@ use Rattle.replay.specs.declared.Answer.{Answer}
 use Rattle.replay.specs.declared.Answer.the-variants.{Report, Refused}
 use Rattle.replay.specs.declared.stream.Stream.{Stream}
 use Rattle.replay.proofs.CheckingState.{all-below}
-use Rattle.transfer.specs.Numbers.{among, namedBy, isKnown, orderNumber, stageNumber, stageOf, threadsNumber, threadsOf, overNumber, answerNumbers, answerBy, scalars, numbersOf, streamOf, stands}
+use Rattle.transfer.specs.Numbers.{among, namedBy, isKnown, orderNumber, stageNumber, stageOf, threadsNumber, threadsOf, overNumber, answerNumbers, isAnswer, answerBy, scalars, numbersOf, streamOf, stands}
 use Rattle.transfer.specs.declared.naming.Named.{Named}
 use Rattle.transfer.specs.declared.naming.Named.the-variants.{Known, Unknown}
 use Rattle.transfer.proofs.Copying.{below-all}
@@ -117,9 +117,10 @@ either : (b : Bool) → (b || true) ≡ true
 either true = refl
 either false = refl
 
-answer-known : (a : Answer) (b c d e f g : List ℕ) → (eqb (getD ((((((answerNumbers a ++ b) ++ c) ++ d) ++ e) ++ f) ++ g) 0 0) 0 || isKnown (namedBy (getD ((((((answerNumbers a ++ b) ++ c) ++ d) ++ e) ++ f) ++ g) 0 0))) ≡ true
+answer-known : (a : Answer) (b c d e f g : List ℕ) → isAnswer (getD ((((((answerNumbers a ++ b) ++ c) ++ d) ++ e) ++ f) ++ g) 0 0) (getD ((((((answerNumbers a ++ b) ++ c) ++ d) ++ e) ++ f) ++ g) 2 0) (getD ((((((answerNumbers a ++ b) ++ c) ++ d) ++ e) ++ f) ++ g) 3 0) (getD ((((((answerNumbers a ++ b) ++ c) ++ d) ++ e) ++ f) ++ g) 4 0) ≡ true
+unfolding isAnswer
 answer-known (Report rows buffers records calls) b c d e f g = refl
-answer-known (Refused r place) b c d e f g = ap (λ (n : Named). eqb (numberOf r) 0 || isKnown n) (named-back r) ∙ either (eqb (numberOf r) 0)
+answer-known (Refused r place) b c d e f g = ap (λ (n : Named). eqb (numberOf r) 0 || (isKnown n && true)) (named-back r) ∙ either (eqb (numberOf r) 0)
 
 -- A part, where lists stand one behind the other.
 peel : (k n : ℕ) (s q : List ℕ) → k + n ≤ length s → take n (drop k (s ++ q)) ≡ take n (drop k s)

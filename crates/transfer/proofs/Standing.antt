@@ -1,7 +1,7 @@
 -- Numbers that stand for a state, test by test. Assumes nothing.
 use Prim.Native.Nat.{ℕ, _+_, _<_, _≤_}
-use mathlib.Core.Path.{_≡_, ap}
-use mathlib.Core.Bool.{Bool, true, false, _&&_, _||_}
+use mathlib.Core.Path.{_≡_, refl, sym, ap}
+use mathlib.Core.Bool.{Bool, true, false, _&&_, true≢false}
 use mathlib.Core.List.{List}
 use native.Mathlib.Nat.{add-assoc}
 use native.Mathlib.Omega.{arith}
@@ -16,8 +16,7 @@ use Rattle.fdr.specs.declared.grammar.Threads.{Threads}
 use Rattle.replay.specs.State.{allBelow}
 use Rattle.replay.specs.declared.Answer.{Answer}
 use Rattle.replay.specs.declared.stream.Stream.{Stream}
-use Rattle.replay.proofs.CheckingState.{both}
-use Rattle.transfer.specs.Numbers.{namedBy, isKnown, stageOf, threadsOf, answerIn, streamWith, streamOf, stands}
+use Rattle.transfer.specs.Numbers.{isAnswer, stageOf, threadsOf, answerIn, streamWith, streamOf, stands}
 use Rattle.transfer.proofs.Copying.{under, below-all}
 
 -- A part of a run.
@@ -29,20 +28,26 @@ below-part s from n limit k count e h =
 -- What the tests say of each number.
 pub record Stood (s : List ℕ) : Type 0 where
   pub order : getD s 0 0 < 2
+  pub stage : getD s 5 0 < 5
   pub thread : getD s 6 0 < 65537
+  pub over : getD s 12 0 < 2
+  pub answer : isAnswer (getD s 13 0) (getD s 15 0) (getD s 16 0) (getD s 17 0) ≡ true
   pub bytes : allBelow 32 (drop 274 s) 256 ≡ true
   pub rows : allBelow 5376 (drop 306 s) 65536 ≡ true
 
 pub stood : (s : List ℕ) → stands s ≡ true → Stood s
 unfolding stands
-stood s e =
-    let f = both (allBelow 32 (drop 274 s) 256) (allBelow 5376 (drop 306 s) 65536) in
-    let a = both (ltb (getD s 0 0) 2) (ltb (getD s 5 0) 5 && (ltb (getD s 6 0) 65537 && (ltb (getD s 12 0) 2 && ((eqb (getD s 13 0) 0 || isKnown (namedBy (getD s 13 0))) && (allBelow 32 (drop 274 s) 256 && allBelow 5376 (drop 306 s) 65536))))) e in
-    let b = both (ltb (getD s 5 0) 5) (ltb (getD s 6 0) 65537 && (ltb (getD s 12 0) 2 && ((eqb (getD s 13 0) 0 || isKnown (namedBy (getD s 13 0))) && (allBelow 32 (drop 274 s) 256 && allBelow 5376 (drop 306 s) 65536)))) (a .1) in
-    let c = both (ltb (getD s 6 0) 65537) (ltb (getD s 12 0) 2 && ((eqb (getD s 13 0) 0 || isKnown (namedBy (getD s 13 0))) && (allBelow 32 (drop 274 s) 256 && allBelow 5376 (drop 306 s) 65536))) (b .1) in
-    let d = both (ltb (getD s 12 0) 2) ((eqb (getD s 13 0) 0 || isKnown (namedBy (getD s 13 0))) && (allBelow 32 (drop 274 s) 256 && allBelow 5376 (drop 306 s) 65536)) (c .1) in
-    let g = both (eqb (getD s 13 0) 0 || isKnown (namedBy (getD s 13 0))) (allBelow 32 (drop 274 s) 256 && allBelow 5376 (drop 306 s) 65536) (d .1) in
-    record { order = ltb-true (getD s 0 0) 2 (a .0); thread = ltb-true (getD s 6 0) 65537 (c .0); bytes = f (g .1) .0; rows = f (g .1) .1 }
+stood s = go (ltb (getD s 0 0) 2) refl (ltb (getD s 5 0) 5) refl (ltb (getD s 6 0) 65537) refl (ltb (getD s 12 0) 2) refl (isAnswer (getD s 13 0) (getD s 15 0) (getD s 16 0) (getD s 17 0)) refl (allBelow 32 (drop 274 s) 256) refl (allBelow 5376 (drop 306 s) 65536) refl
+  where
+    go : (a : Bool) → ltb (getD s 0 0) 2 ≡ a → (b : Bool) → ltb (getD s 5 0) 5 ≡ b → (c : Bool) → ltb (getD s 6 0) 65537 ≡ c → (d : Bool) → ltb (getD s 12 0) 2 ≡ d → (e : Bool) → isAnswer (getD s 13 0) (getD s 15 0) (getD s 16 0) (getD s 17 0) ≡ e → (f : Bool) → allBelow 32 (drop 274 s) 256 ≡ f → (g : Bool) → allBelow 5376 (drop 306 s) 65536 ≡ g → (a && (b && (c && (d && (e && (f && g)))))) ≡ true → Stood s
+    go true t true u true v true w true x true y true z h = record { order = ltb-true (getD s 0 0) 2 t; stage = ltb-true (getD s 5 0) 5 u; thread = ltb-true (getD s 6 0) 65537 v; over = ltb-true (getD s 12 0) 2 w; answer = x; bytes = y; rows = z }
+    go false t b u c v d w e x f y g z h = absurd (true≢false (sym h))
+    go true t false u c v d w e x f y g z h = absurd (true≢false (sym h))
+    go true t true u false v d w e x f y g z h = absurd (true≢false (sym h))
+    go true t true u true v false w e x f y g z h = absurd (true≢false (sym h))
+    go true t true u true v true w false x f y g z h = absurd (true≢false (sym h))
+    go true t true u true v true w true x false y g z h = absurd (true≢false (sym h))
+    go true t true u true v true w true x true y false z h = absurd (true≢false (sym h))
 
 -- The arrays of a state.
 pub arrays : (s since held row index cache : List ℕ) → since ≡ take 256 (drop 18 s) → held ≡ take 32 (drop 274 s) → row ≡ take 256 (drop 306 s) → index ≡ take 1024 (drop 562 s) → cache ≡ take 4096 (drop 1586 s) → streamWith s since held row index cache ≡ streamOf s

@@ -44,12 +44,14 @@ pub record Same (why : ℕ) (s t : List ℕ) (n : ℕ) (counts : List ℕ) (plac
   pub state : s' ≡ s
   pub table : t' ≡ t
 
--- A call on the state for which they stand: they stand for the next one, and it tells the reply.
+-- A call on the state for which they stand: they stand for the next one, and it tells the reply. Where the state stays, so
+-- do its numbers.
 pub record Done (does : Fed → Type 0) (s : List ℕ) (n : ℕ) (counts : List ℕ) (place : ℕ) (s' : List ℕ) : Type 0 where
   pub fed : Fed
   pub called : does fed
   pub tells : Tells (sayingOf (fed .reply)) n counts place
   pub state : Kept (fed .stream) s s'
+  pub same : fed .stream ≡ streamOf s → s' ≡ s
 
 -- "A state shorter than its length is 14 before all else, numbers that stand for no state are 22"
 abbrev pub CallBy : (Stream → List ℕ → Fed → List ℕ → Type 0) → List ℕ → List ℕ → ℕ → List ℕ → ℕ → List ℕ → List ℕ → Type 0

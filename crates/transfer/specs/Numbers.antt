@@ -89,6 +89,10 @@ scalars x =
 abbrev pub numbersOf : Stream → List ℕ
 numbersOf x = (((((scalars x ++ answerNumbers (x .answer)) ++ x .since) ++ x .held) ++ x .row) ++ x .index) ++ x .cache
 
+-- Whether numbers are those of an answer: behind a refusal's place they are zeros.
+unfoldable pub isAnswer : ℕ → ℕ → ℕ → ℕ → Bool
+isAnswer kind b c d = eqb kind 0 || (isKnown (namedBy kind) && (eqb b 0 && (eqb c 0 && eqb d 0)))
+
 -- The answer among numbers.
 abbrev pub answerIn : List ℕ → Answer
 answerIn s = answerBy (namedBy (getD s 13 0)) (getD s 14 0) (getD s 15 0) (getD s 16 0) (getD s 17 0)
@@ -129,7 +133,7 @@ stands s =
     && (ltb (getD s 5 0) 5
     && (ltb (getD s 6 0) 65537
     && (ltb (getD s 12 0) 2
-    && ((eqb (getD s 13 0) 0 || isKnown (namedBy (getD s 13 0)))
+    && (isAnswer (getD s 13 0) (getD s 15 0) (getD s 16 0) (getD s 17 0)
     && (allBelow 32 (drop 274 s) 256
     && allBelow 5376 (drop 306 s) 65536)))))
 

@@ -43,7 +43,7 @@ pub fn stands(numbers: &[u64]) -> bool
     if 2 <= numbers[12] {
         return false;
     }
-    let answered = is_answer(numbers[13]);
+    let answered = is_answer(numbers[13], numbers[15], numbers[16], numbers[17]);
     if !answered {
         return false;
     }

@@ -1,9 +1,7 @@
 // The parts of a state that are no numbers, as numbers.
 ghost use mathlib.Core.Path.{_≡_};
-ghost use mathlib.Core.Bool.{_||_};
 ghost use Prim.Native.Nat.{_<_};
-ghost use lib.Dec.{eqb};
-ghost use Rattle.transfer.specs.Numbers.{namedBy, isKnown, orderNumber, stageNumber, stageOf, threadsNumber, threadsOf, overNumber, answerNumbers, answerBy};
+ghost use Rattle.transfer.specs.Numbers.{namedBy, orderNumber, stageNumber, stageOf, threadsNumber, threadsOf, overNumber, answerNumbers, isAnswer, answerBy};
 use crate::naming::Named;
 use crate::naming::name;
 use fdr::form::Order;
@@ -87,18 +85,24 @@ pub fn answer_numbers(answer: Answer) -> [u64; 5]
     }
 }
 
-// Whether a number tells the kind of an answer.
-pub fn is_answer(kind: u64) -> bool
-    ensures { λ r. ⌜ r ≡ eqb kind 0 || isKnown (namedBy kind) ⌝ }
+// Whether numbers are those of an answer, but for its first count or its place, which may be any.
+pub fn is_answer(kind: u64, b: u64, c: u64, d: u64) -> bool
+    ensures { λ r. ⌜ r ≡ isAnswer kind b c d ⌝ }
 {
     if kind == 0 {
         return true;
     }
     let named = name(kind);
-    match named {
-        Named::Known(_) => true,
-        Named::Unknown => false,
+    let Named::Known(_) = named else {
+        return false;
+    };
+    if b != 0 {
+        return false;
     }
+    if c != 0 {
+        return false;
+    }
+    d == 0
 }
 
 pub fn answer_of(kind: u64, a: u64, b: u64, c: u64, d: u64) -> Answer

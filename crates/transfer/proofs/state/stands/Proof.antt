@@ -37,26 +37,35 @@ returns-4 c = rw (lt-ltb _ _ (c .before .before .before .before .before .before 
 shared-slice-read-is-answer : tie.Need-shared-slice-read-is-answer
 shared-slice-read-is-answer c = search needs
 
+shared-slice-read-is-answer-2 : tie.Need-shared-slice-read-is-answer-2
+shared-slice-read-is-answer-2 c = search needs
+
+shared-slice-read-is-answer-3 : tie.Need-shared-slice-read-is-answer-3
+shared-slice-read-is-answer-3 c = search needs
+
+shared-slice-read-is-answer-4 : tie.Need-shared-slice-read-is-answer-4
+shared-slice-read-is-answer-4 c = search needs
+
 is-answer-requires : tie.Need-is-answer-requires
 is-answer-requires c κs = search needs
 
 returns-5 : tie.Need-returns-5
 unfolding stands
-returns-5 c = rw (lt-ltb _ _ (c .before .before .before .before .before .before .before .before .before .if1 .left), lt-ltb _ _ (c .before .before .before .before .before .before .before .if2 .left), lt-ltb _ _ (c .before .before .before .before .before .if3 .left), lt-ltb _ _ (c .before .before .before .if4 .left), sym (c .before .is-answer .ensures) ∙ not-true _ (c .if5 .taken), stands)
+returns-5 c = rw (lt-ltb _ _ (c .before .before .before .before .before .before .before .before .before .before .before .before .if1 .left), lt-ltb _ _ (c .before .before .before .before .before .before .before .before .before .before .if2 .left), lt-ltb _ _ (c .before .before .before .before .before .before .before .before .if3 .left), lt-ltb _ _ (c .before .before .before .before .before .before .if4 .left), sym (c .before .is-answer .ensures) ∙ not-true _ (c .if5 .taken), stands)
 
 all-below-requires : tie.Need-all-below-requires
 all-below-requires c κs = search needs
 
 returns-6 : tie.Need-returns-6
 unfolding stands
-returns-6 c = rw (lt-ltb _ _ (c .before .before .before .before .before .before .before .before .before .before .before .if1 .left), lt-ltb _ _ (c .before .before .before .before .before .before .before .before .before .if2 .left), lt-ltb _ _ (c .before .before .before .before .before .before .before .if3 .left), lt-ltb _ _ (c .before .before .before .before .before .if4 .left), sym (c .before .before .before .is-answer .ensures) ∙ not-false _ (c .before .before .if5 .left), sym (c .before .all-below .ensures) ∙ not-true _ (c .if6 .taken), stands)
+returns-6 c = rw (lt-ltb _ _ (c .before .before .before .before .before .before .before .before .before .before .before .before .before .before .if1 .left), lt-ltb _ _ (c .before .before .before .before .before .before .before .before .before .before .before .before .if2 .left), lt-ltb _ _ (c .before .before .before .before .before .before .before .before .before .before .if3 .left), lt-ltb _ _ (c .before .before .before .before .before .before .before .before .if4 .left), sym (c .before .before .before .is-answer .ensures) ∙ not-false _ (c .before .before .if5 .left), sym (c .before .all-below .ensures) ∙ not-true _ (c .if6 .taken), stands)
 
 all-below-requires-2 : tie.Need-all-below-requires-2
 all-below-requires-2 c κs = search needs
 
 returns-7 : tie.Need-returns-7
 unfolding stands
-returns-7 c = rw (lt-ltb _ _ (c .before .before .before .before .before .before .before .before .before .before .before .before .if1 .left), lt-ltb _ _ (c .before .before .before .before .before .before .before .before .before .before .if2 .left), lt-ltb _ _ (c .before .before .before .before .before .before .before .before .if3 .left), lt-ltb _ _ (c .before .before .before .before .before .before .if4 .left), sym (c .before .before .before .before .is-answer .ensures) ∙ not-false _ (c .before .before .before .if5 .left), sym (c .before .before .all-below .ensures) ∙ not-false _ (c .before .if6 .left), stands) (c .all-below2 .ensures)
+returns-7 c = rw (lt-ltb _ _ (c .before .before .before .before .before .before .before .before .before .before .before .before .before .before .before .if1 .left), lt-ltb _ _ (c .before .before .before .before .before .before .before .before .before .before .before .before .before .if2 .left), lt-ltb _ _ (c .before .before .before .before .before .before .before .before .before .before .before .if3 .left), lt-ltb _ _ (c .before .before .before .before .before .before .before .before .before .if4 .left), sym (c .before .before .before .before .is-answer .ensures) ∙ not-false _ (c .before .before .before .if5 .left), sym (c .before .before .all-below .ensures) ∙ not-false _ (c .before .if6 .left), stands) (c .all-below2 .ensures)
 
 pub stands-spec : {M : Type 1} → statement M
 stands-spec =
@@ -70,7 +79,7 @@ stands-spec =
     returns-3
     shared-slice-read-if4
     returns-4
-    shared-slice-read-is-answer
+    shared-slice-read-is-answer shared-slice-read-is-answer-2 shared-slice-read-is-answer-3 shared-slice-read-is-answer-4
     is-answer-requires
     returns-5
     all-below-requires
