@@ -34,6 +34,7 @@ $(LIBRARY).a: host/library include/towercloak.h crates.txt $(shell find crates -
 	rt staticlib towercloak
 	rt staticlib desk
 	rt staticlib graph
+	rt staticlib transfer
 	host/library
 
 $(PROGRAM): host/build $(LIBRARY).a $(wildcard host/*.c host/*.h)

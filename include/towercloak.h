@@ -102,6 +102,38 @@ uint32_t towercloak_replay(const uint8_t *log, size_t length, uint32_t order, ui
 uint32_t towercloak_header(const uint8_t *log, size_t length, uint32_t order, uint64_t *frequency,
                            uint64_t *constant_tsc, uint64_t *nonstop_tsc, uint64_t *buffer_size);
 
+/* A stream is a log that is told part by part. Between two calls it is a state and a table of numbers, both the caller's:
+ * each call is lent them as the one before left them. What the numbers of a state mean is for these functions alone. */
+enum {
+    TOWERCLOAK_STATE = 5682, /* the numbers of a state */
+    TOWERCLOAK_MORE = 255    /* the answer of a stream that goes on */
+};
+
+/* Starts a stream: its state is that in front of the first byte of a log of this byte order.
+ *
+ * 0   The first TOWERCLOAK_STATE numbers of the state are written.
+ * 14  numbers, which is how many the state has, is fewer. It is untouched.
+ */
+uint32_t towercloak_stream_start(uint64_t *state, size_t numbers, uint32_t order);
+
+/* Tells a stream its end. The tests are made in this order:
+ *
+ * 14           The state has fewer than TOWERCLOAK_STATE numbers.
+ * 22           Its numbers stand for no state, or for one that isn't sound (docs/STREAM.md).
+ *              Where the stream has ended before, its answer is given again, whatever the table.
+ * 14           The table has fewer than TOWERCLOAK_TABLE numbers.
+ * 22           The rows in the table aren't sound.
+ * 1            The header isn't whole.
+ * 4            The last buffer isn't.
+ * 0            The table, and *rows, *buffers, *records and *open, are as towercloak_replay leaves them.
+ *
+ * Where the answer isn't 0 the four counts are 0. *place is the place of an earlier refusal, and else 0. 14 and 22, and an
+ * answer that is given again, change nothing that is lent; 1 and 4 leave TOWERCLOAK_TABLE zeros in the table. No number
+ * behind those of the state or of the table is ever touched.
+ */
+uint32_t towercloak_stream_end(uint64_t *state, size_t state_numbers, uint64_t *table, size_t numbers, uint64_t *rows,
+                               uint64_t *buffers, uint64_t *records, uint64_t *open, uint64_t *place);
+
 /* What towercloak_walk answers. */
 enum {
     TOWERCLOAK_SHORT_LIST = 14,     /* the lent list is shorter than the wanted number */
