@@ -9,12 +9,13 @@ use lib.ListN.{length}
 use Rattle.fdr.specs.declared.form.Form.{Form}
 use Rattle.replay.specs.Replay.{refusal}
 use Rattle.replay.specs.Stream.{fresh}
-use Rattle.replay.specs.State.{Saying, told, viewed, stateSound}
+use Rattle.replay.specs.State.{Saying, told, sayingOf, viewed, stateSound}
 use Rattle.replay.specs.declared.stream.Stream.{Stream}
 use Rattle.replay.specs.declared.stream.Fed.{Fed}
 use Rattle.transfer.specs.Numbers.{among, namedBy, stateLength, streamOf, stands, Kept}
 use Rattle.transfer.specs.declared.naming.Named.the-variants.{Unknown}
-use Rattle.transfer.specs.Interface.{moreNumber, Tells, Same, Done, CallBy, Begun, StartBy}
+use Rattle.transfer.specs.Interface.{moreNumber, Tells, Same, CallBy, Begun, StartBy}
+use Rattle.transfer.proofs.Repacking.{kept-same}
 
 module _ (does : Stream → List ℕ → Fed → List ℕ → Type 0) (s t : List ℕ) (n : ℕ) (counts : List ℕ) (place : ℕ) (s' t' : List ℕ) where
   pub call-short : length s < stateLength → Same 14 s t n counts place s' t' → CallBy does s t n counts place s' t'
@@ -23,8 +24,8 @@ module _ (does : Stream → List ℕ → Fed → List ℕ → Type 0) (s t : Lis
   pub call-none : stateLength ≤ length s → stands s ≡ false → Same 22 s t n counts place s' t' → CallBy does s t n counts place s' t'
   call-none h e x = rw (le-ltb (length s) stateLength h, e, CallBy) x
 
-  pub call-done : stateLength ≤ length s → stands s ≡ true → Done (λ r. does (streamOf s) t r t') s n counts place s' → CallBy does s t n counts place s' t'
-  call-done h e x = rw (le-ltb (length s) stateLength h, e, CallBy) x
+  pub call-done : (x : Stream) (r : Fed) → stateLength ≤ length s → stands s ≡ true → x ≡ streamOf s → does x t r t' → Tells (sayingOf (r .reply)) n counts place → Kept (r .stream) s s' → CallBy does s t n counts place s' t'
+  call-done x r h e i called tells k = rw (le-ltb (length s) stateLength h, e, CallBy) (record { fed = r; called = subst (λ (y : Stream). does y t r t') i called; tells = tells; state = k; same = kept-same k h e })
 
 -- Numbers that stand for a state stand for it.
 pub kept-own : {x : Stream} {s s' : List ℕ} → Kept x s s' → Kept (streamOf s') s s'

@@ -2,5 +2,5 @@ pub mod Copying
 pub mod Standing
 pub mod Laying
 pub mod Packing
-pub mod Calling
 pub mod Repacking
+pub mod Calling

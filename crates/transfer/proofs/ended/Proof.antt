@@ -1,11 +1,7 @@
 -- `transfer::ended` meets its contract: test by test. Assumes nothing.
-use Prim.Native.Nat.{ℕ}
-use mathlib.Core.Path.{refl, sym, ap, _∙_, subst}
-use mathlib.Core.List.{List}
+use mathlib.Core.Path.{refl, sym, _∙_}
 use borrow.Author.Tests.{not-true, not-false}
 use Rattle.replay.specs.State.{EndDoes}
-use Rattle.replay.specs.declared.stream.Stream.{Stream}
-use Rattle.transfer.proofs.Repacking.{kept-same}
 use Rattle.transfer.proofs.Calling.{call-short, call-none, call-done}
 use borrow.Author.Needs.{needs}
 use Rattle.transfer.proofs.ended.Statement.{statement}
@@ -46,10 +42,9 @@ same-length-3 c = search needs
 
 returns-3 : tie.Need-returns-3
 returns-3 c =
-    let n = c .before .before .before .before .before .before .before .before .before .before .before .before .before .before .before .before .args .table .now in
+    let s = c .before .before .before .before .before .before .before .before .before .before in
     let e = c .before .before .before .before .before .before .end in
-    call-done EndDoes _ _ _ _ _ _ _ (c .before .before .before .before .before .before .before .before .before .before .before .before .before .if1 .left) (sym (c .before .before .before .before .before .before .before .before .before .before .before .stands .ensures) ∙ not-false _ (c .before .before .before .before .before .before .before .before .before .before .if2 .left))
-    (record { fed = e .result; called = subst (λ (x : Stream). EndDoes x n (e .result) (e .last .1 .0)) (c .before .before .before .before .before .before .before .before .unpack .ensures) (e .ensures); tells = c .before .before .finish .ensures .0; state = c .before .before .finish .ensures .1; same = kept-same (c .before .before .finish .ensures .1) (c .before .before .before .before .before .before .before .before .before .before .before .before .before .if1 .left) (sym (c .before .before .before .before .before .before .before .before .before .before .before .stands .ensures) ∙ not-false _ (c .before .before .before .before .before .before .before .before .before .before .if2 .left)) })
+    call-done EndDoes _ _ _ _ _ _ _ _ (e .result) (s .before .before .before .if1 .left) (sym (s .before .stands .ensures) ∙ not-false _ (s .if2 .left)) (c .before .before .before .before .before .before .before .before .unpack .ensures) (e .ensures) (c .before .before .finish .ensures .0) (c .before .before .finish .ensures .1)
 
 pub ended-spec : {M : Type 1} → statement M
 ended-spec =
