@@ -14,6 +14,11 @@ pub mod Heading
 pub mod Knowing
 pub mod Forwarding
 pub mod Keying
+pub mod Lending
+pub mod Telling
+pub mod Tabling
+pub mod Threading
+pub mod Summing
 pub mod Orders
 pub mod LeastRepeats
 pub mod Comparing

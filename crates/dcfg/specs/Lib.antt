@@ -12,3 +12,4 @@ pub mod Dcfg
 pub mod Order
 pub mod Private
 pub mod Lent
+pub mod Running

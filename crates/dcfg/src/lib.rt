@@ -10,4 +10,6 @@ mod listing;
 mod names;
 mod passed;
 mod repeats;
+mod running;
 mod skip;
+mod threads;
