@@ -1,6 +1,6 @@
 -- The passes over arrays and objects: where they end, and that their steps never run out. Assumes nothing.
-use Prim.Native.Nat.{ℕ, zero, suc, _+_, _-_, _≤_, _<_}
-use mathlib.Core.Path.{_≡_, refl, sym, _∙_}
+use Prim.Native.Nat.{ℕ, zero, suc, _+_, _≤_, _<_}
+use mathlib.Core.Path.{_≡_, refl, sym}
 use mathlib.Core.Bool.{Bool, true, false}
 use mathlib.Core.List.{List, []}
 use native.Mathlib.Omega.{arith}
@@ -22,6 +22,7 @@ use Rattle.dcfg.specs.Entries.{Next, value, over, valued, keyed, begun, 
 use Rattle.dcfg.specs.Reading.{Step, go, halt, stop, Fold, fold, grown, after, turn, each, pass, atLast, repeatNumber, unlessRepeated, noted}
 use Rattle.dcfg.specs.Skipped.{skipped}
 use Rattle.dcfg.specs.Private.{PieceIn}
+pub use Rattle.dcfg.specs.Private.{StepIn, Forward}
 use Rattle.dcfg.proofs.ItemPlaces.{item-in, colon-in}
 
 -- A key lies behind low, and ends at high at the latest.
@@ -53,11 +54,6 @@ next-between s o from l = go-on (itemAt s o from) (item-in s o from (itemAt s o 
         (λ t. keyed-between s from i (stringAt s i) (h .0) (string-in s i (stringAt s i) refl .1)) (λ t. omega arith)
     go-on (Stray p) h = (λ l. l, h)
 
--- What is read ends behind low, at high at the latest.
-abbrev pub StepIn : {A : Type 0} → ℕ → ℕ → Step A → Type 0
-StepIn low high (go n a) = (low < n) × (n ≤ high)
-StepIn low high (halt m p a) = 0 ≤ p
-
 abbrev pub FoldIn : {A : Type 0} → ℕ → ℕ → Fold A → Type 0
 FoldIn low high (fold r keys) = StepIn low high r
 
@@ -79,10 +75,6 @@ unless-in {A} low high s ids (fold r g) h = go-on (repeatedIn (keyAt s ids) [] g
     go-on : (x : First) → StepIn {A = A} low high (elim x [ none ↦ r | first q ↦ atLast (repeatNumber ids) (plainAt s q) (noted r) ])
     go-on none = h
     go-on (first q) = last-in low high (repeatNumber ids) (plainAt s q) (noted r)
-
--- A reader of values goes forward.
-abbrev pub Forward : {A : Type 0} → List ℕ → (A → First → ℕ → Step A) → Type 0
-Forward {A} s f = (a : A) (k : First) (p : ℕ) → p ≤ length s → StepIn p (length s) (f a k p)
 
 module _ {A : Type 0} (s : List ℕ) (f : A → First → ℕ → Step A) (o : ℕ) (ol : o < length s) (fw : Forward s f) where
   after-alike : (low : ℕ) (r t : ℕ → List ℕ → A → Fold A) (g : List ℕ) (x : Step A) → StepIn low (length s) x

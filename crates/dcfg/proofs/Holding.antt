@@ -1,16 +1,17 @@
 -- The places of the keys of an array or object, kept in the lent ones from `top` to `n` while it is read. Assumes nothing.
-use Prim.Native.Nat.{ℕ, suc, _+_, _-_, _*_, _≤_, _<_}
+use Prim.Native.Nat.{ℕ, _+_, _-_, _*_, _≤_, _<_}
 use mathlib.Core.Path.{_≡_, refl, sym, ap, _∙_, subst}
 use mathlib.Core.List.{List, [], _∷_, _++_}
 use mathlib.Core.Logic.{⊎-elim}
 use native.Mathlib.Omega.{arith}
 use native.Mathlib.Numerals.{add-one}
 use lib.ListN.{length, getD, set, take, drop, length-set, length-append, List·getD-append}
-use lib.Seq.{take-set-le, take-suc-set, take-take, take-add, length-take-le, drop-append-le, drop-at, getD-at}
+use lib.Seq.{take-set-le, take-suc-set, take-take, take-add, length-take-le, drop-append-le, drop-at, getD-at, set-getD}
 use Rattle.dcfg.specs.Repeated.{First, none, first}
 use Rattle.dcfg.specs.Reading.{grown}
 use Rattle.sorting.specs.Sorting.{Each, Rising, part}
 use Rattle.dcfg.specs.Private.{Place, countOf, kept}
+use Rattle.dcfg.specs.Rows.{OwnIn, Stored}
 use Rattle.sorting.proofs.Ordering.{below-or-not}
 use Rattle.dcfg.proofs.Folding.{KeyIn}
 
@@ -105,6 +106,31 @@ module _ (s keys₀ : List ℕ) (top : ℕ) where
     rising = subst Rising (sym (part-grown keys top n q (h .above) l))
         (rising-snoc (part keys top n) q (h .rising) (each-lower (part keys top n) from q (omega arith) (h .before)));
   }
+
+  -- A place that a callee left behind the first n.
+  module _ (own : First) (keys : List ℕ) (from at n to : ℕ) (h : Held s keys₀ keys top from n) (l : n < length keys) (st : Stored keys n own) where
+    pub part-own : part keys top (countOf n own) ≡ grown (part keys top n) own
+    part-own = go-on own st
+      where
+        go-on : (o : First) → Stored keys n o → part keys top (countOf n o) ≡ grown (part keys top n) o
+        go-on none e = refl
+        go-on (first q) e = ap (λ (k : List ℕ). part k top (n + 1)) (sym (ap (set keys n) (sym e) ∙ set-getD keys n 0)) ∙ part-grown keys top n q (h .above) l
+
+    pub held-own : from < at → OwnIn at to own → to ≤ length s → Held s keys₀ keys top to (countOf n own)
+    held-own f i b = go-on own i part-own
+      where
+        go-on : (o : First) → OwnIn at to o → part keys top (countOf n o) ≡ grown (part keys top n) o → Held s keys₀ keys top to (countOf n o)
+        go-on none i e = held-on keys from n to h (omega (arith, i)) b
+        go-on (first q) i e = record {
+          within = b;
+          room = omega (arith, h .room, i);
+          above = omega (arith, h .above);
+          long = h .long;
+          below = h .below;
+          before = subst (λ (g : List ℕ). Each (λ p. p < to) g) (sym e)
+              (each-snoc (λ p. p < to) (part keys top n) q (each-lower (part keys top n) from to (omega (arith, i)) (h .before)) (omega (arith, i)));
+          rising = subst Rising (sym e) (rising-snoc (part keys top n) q (h .rising) (each-lower (part keys top n) from q (omega (arith, i)) (h .before)));
+        }
 
   -- What a callee does with the rest of the lent places.
   module _ (keys keys′ : List ℕ) (from n : ℕ) (h : Held s keys₀ keys top from n) (l : n ≤ length keys) (len : length keys′ ≡ length keys) (e : take n keys′ ≡ take n keys) where

@@ -17,6 +17,12 @@ pub mod Keying
 pub mod Lending
 pub mod Telling
 pub mod Tabling
+pub mod Noting
+pub mod Celling
+pub mod Rowing
+pub mod Putting
+pub mod TableRows
+pub mod Starting
 pub mod Threading
 pub mod Summing
 pub mod Orders

@@ -12,4 +12,5 @@ pub mod Dcfg
 pub mod Order
 pub mod Private
 pub mod Lent
+pub mod Rows
 pub mod Running

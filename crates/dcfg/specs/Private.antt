@@ -40,6 +40,15 @@ pub record Room (s : List ℕ) (at : ℕ) (keys : List ℕ) (top : ℕ) : Type 0
   pub room : 3 * top ≤ at
   pub big : 349526 ≤ length keys
 
+-- What is read ends behind low, at high at the latest.
+abbrev pub StepIn : {A : Type 0} → ℕ → ℕ → Step A → Type 0
+StepIn low high (go n a) = (low < n) × (n ≤ high)
+StepIn low high (halt m p a) = 0 ≤ p
+
+-- A reader of values goes forward.
+abbrev pub Forward : {A : Type 0} → List ℕ → (A → First → ℕ → Step A) → Type 0
+Forward {A} s f = (a : A) (k : First) (p : ℕ) → p ≤ length s → StepIn p (length s) (f a k p)
+
 -- An item lies behind `low`, at `high` at the latest.
 abbrev pub PieceIn : ℕ → ℕ → Piece → Type 0
 PieceIn low high (Close n) = (low < n) × (n ≤ high)

@@ -25,7 +25,7 @@ pub enum Got {
     Not(Refusal, usize),
 }
 
-const DEEPEST: u32 = 32;
+pub const DEEPEST: u32 = 32;
 
 pub fn wrong(text: &[u8], at: usize, keys: &mut [u32], top: usize) -> Passed
     requires { ⌜ Room (now text) at (now keys) top ⌝ }
@@ -67,7 +67,7 @@ fn judged(text: &[u8], at: usize, read: Read) -> Got
     }
 }
 
-fn none_of(out: Passed) -> Got
+pub fn none_of(out: Passed) -> Got
     ensures { λ r. ⌜ integerStepOf r ≡ spec.noting 0 (stepOf out) ⌝ }
 {
     match out {

@@ -10,6 +10,8 @@ mod listing;
 mod names;
 mod passed;
 mod repeats;
+mod row;
 mod running;
 mod skip;
+mod table;
 mod threads;

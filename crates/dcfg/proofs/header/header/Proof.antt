@@ -1,7 +1,3 @@
--- `dcfg::header::header` meets its contract: x. Assumes nothing.
-
--- `dcfg::header::header` meets its contract: x. Assumes nothing.
-
 -- `dcfg::header::header` meets its contract: its loop makes the definition's pass, and the lent places are those of the columns. Assumes nothing.
 use borrow.Author.Needs.{needs}
 use Prim.Native.Nat.{_-_}

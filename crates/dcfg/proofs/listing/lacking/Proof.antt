@@ -1,5 +1,4 @@
 -- `dcfg::listing::lacking` meets its contract: by what was missing. Assumes nothing.
-use mathlib.Core.Path.{sym}
 use Rattle.dcfg.proofs.listing.lacking.Statement.{statement}
 use Rattle.dcfg.proofs.listing.lacking.Tie as tie
 
