@@ -80,42 +80,33 @@ ownWith own none = own
 ownWith own (first q) = first q
 
 module _ (s : List ℕ) (table process : ℕ) (t : Table) (k p : ℕ) where
-  pub cell-halts : {m q v : ℕ} → ((d : Document) (row : ℕ) → cellAt s (kindOf s table 0) d row k p ≡ valued d (halt m q v))
-      → columnAt 0 (t .known) (t .cells + 1) ≡ k → rowCell s (kindOf s table process) t none p ≡ halt m q t
-  unfolding rowCell
-  cell-halts {m} {q} {v} g e = rw e (go-on (ltb k 5) (g (t .doc) (t .rows - 1)))
-    where
-      other : (x : Step (Unit {0})) → noting (cell (t .doc) 0) x ≡ halt m q (cell (t .doc) v) → elim x [ go n u ↦ go n (passedOver t) | halt m q u ↦ halt m q t ] ≡ halt m q t
-      other (go n u) h = clash (cc)
-      other (halt a b u) h = cc
+  abbrev pub behind : Bool → Step ℕ → Step Table
+  behind b (go n v) = go n (elim b [ true ↦ withCell (kindOf s table process) t k p (cell (t .doc) v) | false ↦ passedOver t ])
+  behind b (halt m q v) = halt m q t
 
-      go-on : (b : Bool) → _≡_ {A = Step Cell} (elim b [ true ↦ kindOf s table process .read (t .doc) (t .rows - 1) k p | false ↦ noting (cell (t .doc) 0) (skipped 32 s p) ]) (halt m q (cell (t .doc) v))
-          → elim b [
+  pub cell-is : (got : Step ℕ) → ((d : Document) (row : ℕ) → cellAt s (kindOf s table 0) d row k p ≡ valued d got) → columnAt 0 (t .known) (t .cells + 1) ≡ k
+      → rowCell s (kindOf s table process) t none p ≡ behind (ltb k 5) got
+  unfolding rowCell
+  cell-is got g e = rw e (go-on (ltb k 5) (g (t .doc) (t .rows - 1)))
+    where
+      known : (y : Step ℕ) → _≡_ {A = Step Table} (elim (valued (t .doc) y) [ go n c ↦ go n (withCell (kindOf s table process) t k p c) | halt m q c ↦ halt m q t ]) (behind true y)
+      known (go n v) = refl
+      known (halt m q v) = refl
+
+      other : (x : Step (Unit {0})) (y : Step ℕ) → noting (cell (t .doc) 0) x ≡ valued (t .doc) y
+          → _≡_ {A = Step Table} (elim x [ go n u ↦ go n (passedOver t) | halt m q u ↦ halt m q t ]) (behind false y)
+      other (go m u) (go n v) h = cc
+      other (go m u) (halt n q v) h = clash (cc)
+      other (halt m q u) (go n v) h = clash (cc)
+      other (halt m q u) (halt n r v) h = cc
+
+      go-on : (b : Bool) → _≡_ {A = Step Cell} (elim b [ true ↦ kindOf s table process .read (t .doc) (t .rows - 1) k p | false ↦ noting (cell (t .doc) 0) (skipped 32 s p) ]) (valued (t .doc) got)
+          → _≡_ {A = Step Table} (elim b [
             | true ↦ elim (kindOf s table process .read (t .doc) (t .rows - 1) k p) [ go n c ↦ go n (withCell (kindOf s table process) t k p c) | halt m q c ↦ halt m q t ]
             | false ↦ elim (skipped 32 s p) [ go n u ↦ go n (passedOver t) | halt m q u ↦ halt m q t ]
-          ] ≡ halt m q t
-      go-on true h = rw h
-      go-on false h = other (skipped 32 s p) h
-
-  abbrev behind : Bool → ℕ → Table
-  behind b v = elim b [ true ↦ withCell (kindOf s table process) t k p (cell (t .doc) v) | false ↦ passedOver t ]
-
-  cell-goes : {n v : ℕ} → ((d : Document) (row : ℕ) → cellAt s (kindOf s table 0) d row k p ≡ valued d (go n v))
-      → columnAt 0 (t .known) (t .cells + 1) ≡ k → rowCell s (kindOf s table process) t none p ≡ go n (behind (ltb k 5) v)
-  unfolding rowCell
-  cell-goes {n} {v} g e = rw e (go-on (ltb k 5) (g (t .doc) (t .rows - 1)))
-    where
-      other : (x : Step (Unit {0})) → noting (cell (t .doc) 0) x ≡ go n (cell (t .doc) v) → elim x [ go n u ↦ go n (passedOver t) | halt m q u ↦ halt m q t ] ≡ go n (passedOver t)
-      other (go m u) h = cc
-      other (halt a b u) h = clash (cc)
-
-      go-on : (b : Bool) → _≡_ {A = Step Cell} (elim b [ true ↦ kindOf s table process .read (t .doc) (t .rows - 1) k p | false ↦ noting (cell (t .doc) 0) (skipped 32 s p) ]) (go n (cell (t .doc) v))
-          → elim b [
-            | true ↦ elim (kindOf s table process .read (t .doc) (t .rows - 1) k p) [ go n c ↦ go n (withCell (kindOf s table process) t k p c) | halt m q c ↦ halt m q t ]
-            | false ↦ elim (skipped 32 s p) [ go n u ↦ go n (passedOver t) | halt m q u ↦ halt m q t ]
-          ] ≡ go n (behind b v)
-      go-on true h = rw h
-      go-on false h = other (skipped 32 s p) h
+          ]) (behind b got)
+      go-on true h = rw h (known got)
+      go-on false h = other (skipped 32 s p) got h
 
 -- Column 0 stands once in a row.
 module _ (s : List ℕ) (table process : ℕ) (t : Table) (i had : ℕ) (values : List ℕ) (k p v : ℕ) where
@@ -133,5 +124,5 @@ module _ (s : List ℕ) (table process : ℕ) (t : Table) (i had : ℕ) (values 
   pub row-goes : {n : ℕ} → ((d : Document) (row : ℕ) → cellAt s (kindOf s table 0) d row k p ≡ valued d (go n v)) → columnAt 0 (t .known) (i + 1) ≡ k
       → (own : First) → (k ≡ 0 → own ≡ none)
       → rowCell s (kindOf s table process) (inRow t own i had values) none p ≡ go n (inRow t (ownWith own (ownAt k p)) (i + 1) (hadWith k had) (valuesWith k v values))
-  row-goes {n} g e own o = cell-goes s table process (inRow t own i had values) k p g e
+  row-goes {n} g e own o = cell-is s table process (inRow t own i had values) k p (go n v) g e
       ∙ ap (go n) (row-behind (ltb k 5) (eqb k 0) own (λ h. o (eqb-true k 0 h)) (λ h. lt-ltb k 5 (omega (arith, eqb-true k 0 h))))

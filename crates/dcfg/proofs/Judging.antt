@@ -7,7 +7,6 @@ use native.Mathlib.Omega.{arith}
 use borrow.Author.Tests.{le-leb, lt-leb}
 use lib.Dec.{eqb}
 use lib.ListN.{length}
-use Rattle.refusal.specs.Refusal.{numberOf}
 use Rattle.refusal.specs.declared.Refusal.{Refusal}
 use Rattle.json.specs.declared.Read.{Read}
 use Rattle.json.specs.declared.Read.the-variants.{At, No}
@@ -18,7 +17,7 @@ use Rattle.json.specs.Strings.{stringAt}
 use Rattle.json.specs.Plain.{plainAt}
 use Rattle.json.specs.Integers.{integerOf}
 use Rattle.json.specs.Bounds.{ReadIn}
-use Rattle.json.proofs.Tests.{both}
+use Rattle.json.proofs.Tests.{both, clash}
 use Rattle.json.proofs.Places.{string-in, plain-in}
 use Rattle.dcfg.specs.declared.passed.Passed.{Passed}
 use Rattle.dcfg.specs.declared.passed.Passed.the-variants.{To, Refused}
@@ -29,7 +28,7 @@ use Rattle.dcfg.specs.Reading.{Step, go, halt, stop}
 use Rattle.dcfg.specs.Skipped.{skipped}
 use Rattle.dcfg.specs.Kinds.{noting, refused, wrong, aString, integral, judged, anInteger, inRange, ranged, anId}
 use Rattle.dcfg.specs.Private.{stepOf, integerStepOf}
-use Rattle.dcfg.proofs.Folding.{StepIn, stop-in, skipped-in}
+use Rattle.dcfg.proofs.Folding.{StepIn, skipped-in}
 
 -- Where they end.
 
@@ -40,6 +39,14 @@ refused-in low high (halt m p a) = omega arith
 pub wrong-from : (low : ℕ) (s : List ℕ) (i : ℕ) → StepIn low (length s) (wrong s i)
 unfolding wrong
 wrong-from low s i = refused-in low (length s) (skipped 32 s i)
+
+-- So it is never read to an end.
+pub wrong-never : (s : List ℕ) (i n : ℕ) {P : Type 0} → go n tt ≡ wrong s i → P
+wrong-never s i n e = go-on (wrong s i) (wrong-from (length s) s i) e
+  where
+    go-on : {P : Type 0} (x : Step (Unit {0})) → StepIn (length s) (length s) x → go n tt ≡ x → P
+    go-on (go m u) h f = absurd (omega (arith, h))
+    go-on (halt m q u) h f = clash (cc)
 
 pub wrong-in : (s : List ℕ) (i : ℕ) → StepIn i (length s) (wrong s i)
 wrong-in s i = wrong-from i s i

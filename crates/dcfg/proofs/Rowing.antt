@@ -27,14 +27,14 @@ use Rattle.dcfg.specs.Reading.{Step, go, halt, stop, fold, pass, ended, 
 use Rattle.dcfg.specs.Kinds.{noting, wrong}
 use Rattle.dcfg.specs.Document.{Document, nothing}
 use Rattle.dcfg.specs.Tables.{columnAt, Table, rowBegun, rowCell, valued}
-use Rattle.dcfg.specs.Private.{stepOf, integerStepOf, countOf, kept, entryOf, keptOf, EntryIn, Room, StepIn}
+use Rattle.dcfg.specs.Private.{stepOf, integerStepOf, countOf, kept, entryOf, keptOf, EntryIn, Room}
 use Rattle.dcfg.specs.Rows.{kindOf, cellAt, ownAt, inRow, cellsAt, RowSays, OwnIn, endOf, Stored, RowRead, atRow}
-use Rattle.dcfg.proofs.Judging.{wrong-from}
+use Rattle.dcfg.proofs.Judging.{wrong-never}
 use Rattle.dcfg.proofs.Arrays.{not-object}
 use Rattle.dcfg.proofs.Walking.{Walking, Met, Over-with, walk-start, walk-over, walk-value, walk-in, walk-go, walk-halt}
 use Rattle.dcfg.proofs.Settling.{stop-noting, stop-noted}
 use Rattle.dcfg.proofs.Forwarding.{row-forward}
-use Rattle.dcfg.proofs.Celling.{listing-forward, own-at, ownWith, hadWith, valuesWith, cell-halts, row-goes}
+use Rattle.dcfg.proofs.Celling.{listing-forward, own-at, ownWith, hadWith, valuesWith, behind, cell-is, row-goes}
 
 -- How a row ended, by what the code says.
 
@@ -46,30 +46,23 @@ row-says t own cells had values (Refused why p) (go m a) e f = clash (cc)
 row-says t own cells had values (Refused why p) (halt m q a) e f = record { before = a; is = cc; ids-are = ap (λ (u : Table). u .ids) f }
 
 -- What is no array is refused.
-wrong-says : (s : List ℕ) (i : ℕ) (t : Table) (had : ℕ) (values : List ℕ) (out : Passed) (x : Step (Unit {0})) → StepIn (length s) (length s) x → stepOf out ≡ x
-    → RowSays t none had values out (noting t x)
-wrong-says s i t had values (To n) (go m u) h e = absurd (omega (arith, h))
-wrong-says s i t had values (To n) (halt m q u) h e = clash (cc)
-wrong-says s i t had values (Refused why p) (go m u) h e = clash (cc)
-wrong-says s i t had values (Refused why p) (halt m q u) h e = record { before = t; is = cc; ids-are = refl }
-
-never : (s : List ℕ) (i n : ℕ) {P : Type 0} (x : Step (Unit {0})) → StepIn (length s) (length s) x → go n tt ≡ x → P
-never s i n (go m u) h e = absurd (omega (arith, h))
-never s i n (halt m q u) h e = clash (cc)
+wrong-says : (s : List ℕ) (i : ℕ) (t : Table) (had : ℕ) (values : List ℕ) (out : Passed) → stepOf out ≡ wrong s i → RowSays t none had values out (noting t (wrong s i))
+wrong-says s i t had values (To n) e = wrong-never s i n e
+wrong-says s i t had values (Refused why p) e = record { before = t; is = ap (noting t) (sym e); ids-are = refl }
 
 pub row-not : (s : List ℕ) (table : ℕ) (known : List ℕ) (at top : ℕ) (out : Passed) (values keys′ : List ℕ) → at ≤ length s → eqb (byteAt s at) 91 ≡ false → stepOf out ≡ wrong s at
     → RowRead s table known at top out top 0 values keys′
 row-not s table known at top out values keys′ l e f = record {
   own = none;
-  says = λ process t k. rw (e, cellsAt) (wrong-says s at t 0 values out (wrong s at) (wrong-from (length s) s at) f);
-  in-text = λ n g. never s at n (wrong s at) (wrong-from (length s) s at) (ap stepOf (sym g) ∙ f);
+  says = λ process t k. rw (e, cellsAt) (wrong-says s at t 0 values out f);
+  in-text = λ n g. wrong-never s at n (ap stepOf (sym g) ∙ f);
   own-in = end out f;
   count = refl;
   stored = omega arith;
 }
   where
     end : (o : Passed) → stepOf o ≡ wrong s at → at ≤ endOf (length s) o
-    end (To n) g = never s at n (wrong s at) (wrong-from (length s) s at) g
+    end (To n) g = wrong-never s at n g
     end (Refused why p) g = l
 
 -- The own id is read at the one index of column 0.
@@ -292,7 +285,7 @@ module _ {s : List ℕ} (table : ℕ) (known : List ℕ) {at : ℕ} (e : eqb (by
                 own = l .own;
                 says = λ process t q. row-ended process t (halt (numberOf why) place (inRow t (l .own) i had values))
                     (walk-halt (rowCell s (kindOf s table process)) (row-forward s (kindOf s table process) (listing-forward s table process)) inside (not-object s at e) (met process t q)
-                    (cell-halts s table process (inRow t (l .own) i had values) k v (λ d row. g d row ∙ ap (λ (o : Got). valued d (integerStepOf o)) is) (column-is t q))) (Refused why place) refl refl;
+                    (cell-is s table process (inRow t (l .own) i had values) k v (integerStepOf got) g (column-is t q) ∙ ap (λ (o : Got). behind s table process (inRow t (l .own) i had values) k v (ltb k 5) (integerStepOf o)) is)) (Refused why place) refl refl;
                 in-text = λ k q. clash (cc);
                 own-in = own-later at from (length s) (l .own) (l .within) (l .own-in);
                 count = l .count;

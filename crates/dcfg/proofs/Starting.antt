@@ -31,7 +31,7 @@ use Rattle.dcfg.specs.Tables.{Header, noColumns, found, withColumn, head
 use Rattle.dcfg.specs.Private.{stepOf, entryOf, keptOf, Room, Headed, StepIn, Forward}
 use Rattle.dcfg.specs.Lent.{documentOf, telling, Lent, EdgesRead}
 use Rattle.dcfg.specs.Rows.{kindOf, behindHeader, restAt, headTold, HeadRead}
-use Rattle.dcfg.proofs.Judging.{wrong-from}
+use Rattle.dcfg.proofs.Judging.{wrong-never}
 use Rattle.dcfg.proofs.Arrays.{not-object}
 use Rattle.dcfg.proofs.Walking.{Met, walk-start, walk-from, walk-over, walk-value}
 use Rattle.dcfg.proofs.Settling.{unless-noted}
@@ -70,23 +70,17 @@ header-five s table o = both (λ (x : Step Header). length (noted x .known) ≡ 
 
 -- What is no array.
 
-never : (s : List ℕ) {P : Type 0} (n : ℕ) (x : Step (Unit {0})) → StepIn (length s) (length s) x → go n tt ≡ x → P
-never s n (go m u) h e = absurd (omega (arith, h))
-never s n (halt m q u) h e = clash (cc)
-
 pub head-not : (s : List ℕ) (table at : ℕ) (out : Passed) → eqb (byteAt s at) 91 ≡ false → stepOf out ≡ wrong s at → HeadRead s table at out zeros
 unfolding tableAt
 head-not s table at out e f = record {
-  says = λ kind q fw d. rw (e, tableAt) (go-on kind d out (wrong s at) (wrong-from (length s) s at) f);
-  opened = λ start q. never s start (wrong s at) (wrong-from (length s) s at) (ap stepOf (sym q) ∙ f);
+  says = λ kind q fw d. rw (e, tableAt) (go-on kind d out f);
+  opened = λ start q. wrong-never s at start (ap stepOf (sym q) ∙ f);
   five = refl;
 }
   where
-    go-on : (kind : Kind) (d : Document) (o : Passed) (x : Step (Unit {0})) → StepIn (length s) (length s) x → stepOf o ≡ x → telling (noting d x) ≡ headTold s kind at zeros d o
-    go-on kind d (To n) (go m u) h g = absurd (omega (arith, h))
-    go-on kind d (To n) (halt m q u) h g = clash (cc)
-    go-on kind d (Refused why p) (go m u) h g = clash (cc)
-    go-on kind d (Refused why p) (halt m q u) h g = cc
+    go-on : (kind : Kind) (d : Document) (o : Passed) → stepOf o ≡ wrong s at → telling (noting d (wrong s at)) ≡ headTold s kind at zeros d o
+    go-on kind d (To n) g = wrong-never s at n g
+    go-on kind d (Refused why p) g = ap (λ (x : Step (Unit {0})). telling (noting d x)) (sym g)
 
 module _ (s : List ℕ) (table at : ℕ) (e : eqb (byteAt s at) 91 ≡ true) where
   inside : at < length s

@@ -31,7 +31,7 @@ use Rattle.dcfg.specs.Private.{stepOf, entryOf, keptOf, Room, Place, Ste
 use Rattle.dcfg.specs.Lent.{documentOf, lackingIn, to, off, telling, toldBy, carried, edgesIn, threadsIn, Lent, Kept, EdgesRead}
 use Rattle.dcfg.specs.Rows.{kindBy, kindOf, inRow, cellsAt, RowHalted, RowSays, endOf, RowRead, listedAt, behindHeader, restAt}
 use Rattle.dcfg.proofs.Folding.{unless-in}
-use Rattle.dcfg.proofs.Judging.{wrong-from}
+use Rattle.dcfg.proofs.Judging.{wrong-never}
 use Rattle.dcfg.proofs.Holding.{Held, held-start, held-call, held-own, part-call, part-own, part-empty, held-room, settle-ready}
 use Rattle.dcfg.proofs.Arrays.{not-object}
 use Rattle.dcfg.proofs.Walking.{Walking, Met, Over-with, walk-from, walk-over, walk-value, walk-in, walk-go, walk-halt}
@@ -47,14 +47,14 @@ row-is : (s : List ℕ) (kind : Kind) (t : Table) (o : ℕ) → rowAt s kind t o
 unfolding rowAt
 row-is s kind t o = go-on (eqb (byteAt s o) 91)
   where
-    wrong-on : (x : Step (Unit {0})) → StepIn (length s) (length s) x → noting t x ≡ listed kind (noting t x)
-    wrong-on (go n u) h = absurd (omega (arith, h))
+    wrong-on : (x : Step (Unit {0})) → ((n : ℕ) → go n tt ≡ x → noting t x ≡ listed kind (noting t x)) → noting t x ≡ listed kind (noting t x)
+    wrong-on (go n u) h = h n refl
     wrong-on (halt m q u) h = refl
 
     go-on : (b : Bool) → _≡_ {A = Step Table} (elim b [ true ↦ listed kind (ended (pass (rowCell s kind) s o (rowBegun t))) | false ↦ noting t (wrong s o) ])
         (listed kind (elim b [ true ↦ ended (pass (rowCell s kind) s o (rowBegun t)) | false ↦ noting t (wrong s o) ]))
     go-on true = refl
-    go-on false = wrong-on (wrong s o) (wrong-from (length s) s o)
+    go-on false = wrong-on (wrong s o) (λ n e. wrong-never s o n e)
 
 later-row : (s : List ℕ) (kind : Kind) (t : Table) (key : First) (p : ℕ) → eqb (t .rows) 0 ≡ false → tableRow s kind t key p ≡ rowAt s kind t p
 unfolding tableRow
