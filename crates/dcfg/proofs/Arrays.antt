@@ -1,16 +1,15 @@
 -- A loop over an array that keeps no places: those lent below `top` are as they were. Assumes nothing.
 use Prim.Native.Nat.{ℕ, _*_, _≤_, _<_}
-use mathlib.Core.Path.{_≡_, refl, sym, ap, _∙_}
+use mathlib.Core.Path.{_≡_, ap, _∙_}
 use mathlib.Core.Bool.{true, false}
-use mathlib.Core.List.{List, [], _∷_}
+use mathlib.Core.List.{List}
 use native.Mathlib.Omega.{arith}
 use borrow.Author.Tests.{eqb-true, ne-eqb}
 use lib.Dec.{eqb}
 use lib.ListN.{length, take}
 use Rattle.json.specs.Bytes.{byteAt}
-use Rattle.json.proofs.Tests.{told}
 use Rattle.dcfg.specs.Private.{Room}
-use Rattle.dcfg.proofs.Holding.{Held, held-start, held-room, held-call, held-on}
+use Rattle.dcfg.proofs.Holding.{Held, held-room, held-call, held-on}
 use Rattle.dcfg.proofs.Passing.{Opening}
 
 pub not-object : (s : List ℕ) (i : ℕ) → eqb (byteAt s i) 91 ≡ true → eqb (byteAt s i) 123 ≡ false

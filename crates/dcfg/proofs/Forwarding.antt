@@ -1,7 +1,7 @@
 -- What a DCFG is read by goes forward: a value ends behind its place, at the text's end at the latest. Assumes nothing.
 use Prim.Native.Nat.{ℕ, _+_, _-_, _≤_, _<_}
 use mathlib.Core.Path.{_≡_}
-use mathlib.Core.Bool.{Bool, true, false}
+use mathlib.Core.Bool.{true, false}
 use mathlib.Core.List.{List, [], _∷_}
 use native.Mathlib.Omega.{arith}
 use lib.Dec.{eqb, ltb}
@@ -11,10 +11,10 @@ use Rattle.json.proofs.Tests.{both, told}
 use Rattle.dcfg.specs.Repeated.{First}
 use Rattle.dcfg.specs.Reading.{Step, go, halt, Fold, fold, ended, noted, pass, unlessRepeated}
 use Rattle.dcfg.specs.Skipped.{skipped}
-use Rattle.dcfg.specs.Kinds.{noting, wrong, aString, anInteger, anId, integers}
+use Rattle.dcfg.specs.Kinds.{wrong, aString, anInteger, anId, integers}
 use Rattle.dcfg.specs.Names.{columnsOf, processKeys, topKeys}
 use Rattle.dcfg.specs.Document.{Document, nothing, lacking, withEdge, withThread}
-use Rattle.dcfg.specs.Tables.{Header, noColumns, columnsOnce, headerCell, headerAt, columnAt, Table, begin, headed, rowBegun, rowEnded, passedOver, Cell, cell, Kind, withCell, knownCell, rowCell, listed, rowAt, tableRow, idsOnce, closed, tableAt, valued, named, edgesOf}
+use Rattle.dcfg.specs.Tables.{Header, noColumns, columnsOnce, headerCell, headerAt, columnAt, Table, begin, headed, rowBegun, rowEnded, passedOver, Cell, cell, Kind, withCell, rowCell, listed, rowAt, tableRow, idsOnce, closed, tableAt, valued, named, edgesOf}
 use Rattle.dcfg.specs.Processes.{keyIn, Process, counted, threadAt, threadsAt, one, withTotal, withDocument, processKey, processValue, judgedProcess, processAt, dataOf, processes}
 use Rattle.dcfg.specs.Dcfg.{Top, topValue, oneMore, topKey}
 use Rattle.dcfg.proofs.Folding.{StepIn, FoldIn, Forward, unless-in, pass-in, skipped-in}

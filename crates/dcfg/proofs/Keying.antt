@@ -1,8 +1,8 @@
 -- In a loop over an object, the last of the lent places is that of the key just read. Assumes nothing.
 use Prim.Native.Nat.{ℕ, _+_, _-_, _≤_, _<_}
-use mathlib.Core.Path.{_≡_, refl, sym, ap, _∙_, subst}
-use mathlib.Core.Bool.{true, false}
-use mathlib.Core.List.{List, []}
+use mathlib.Core.Path.{_≡_, sym, ap, _∙_}
+use mathlib.Core.Bool.{true}
+use mathlib.Core.List.{List}
 use native.Mathlib.Omega.{arith}
 use lib.Dec.{eqb}
 use lib.ListN.{length, getD, set, length-set}
@@ -15,10 +15,10 @@ use Rattle.json.proofs.Tests.{clash}
 use Rattle.dcfg.specs.declared.items.Piece.{Piece}
 use Rattle.dcfg.specs.declared.items.Piece.the-variants.{Close, Next as Item, Stray}
 use Rattle.dcfg.specs.declared.entries.Entry.{Entry}
-use Rattle.dcfg.specs.declared.entries.Entry.the-variants.{Value, Over}
+use Rattle.dcfg.specs.declared.entries.Entry.the-variants.{Value}
 use Rattle.dcfg.specs.Items.{itemAt, colonAt}
 use Rattle.dcfg.specs.Repeated.{First, none, first}
-use Rattle.dcfg.specs.Entries.{Next, value, over, valued, keyed, begun, nextIn}
+use Rattle.dcfg.specs.Entries.{value, over, valued, keyed, begun, nextIn}
 use Rattle.dcfg.specs.Reading.{Step}
 use Rattle.dcfg.specs.Private.{entryOf, keptOf}
 use Rattle.dcfg.proofs.Folding.{NextIn, next-between, Forward}
@@ -47,9 +47,9 @@ member-key s o from object v k e = go-on (itemAt s o from) e
     go-on (Item i) f = keyed-key s i (stringAt s i) v k (rw (object, begun) at f)
     go-on (Stray p) f = clash (cc)
 
--- Of the m places lent so far the last is the key's.
-pub record LastKey (s keys : List ℕ) (m : ℕ) (k : First) : Type 0 where
-  pub some : 0 < m
+-- Of the m places lent so far, one more than n, the last is the key's.
+pub record LastKey (s : List ℕ) (n : ℕ) (keys : List ℕ) (m : ℕ) (k : First) : Type 0 where
+  pub count : m ≡ n + 1
   pub fits : m ≤ length keys
   pub inside : getD keys (m - 1) 0 < length s
   pub is : k ≡ first (getD keys (m - 1) 0)
@@ -63,7 +63,7 @@ module _ {A : Type 0} {s : List ℕ} (f : A → First → ℕ → Step A) (fw : 
   key : Key (was .key)
   key = member-key s o from object v (was .key) (was .is)
 
-  pub pass-key : LastKey s keys′ m (was .key)
+  pub pass-key : LastKey s n keys′ m (was .key)
   pass-key =
       let q = key .place in
       let free : n < length keys = held-room s keys₀ top keys from n (p .held) (w .small) (w .big) in
@@ -72,4 +72,4 @@ module _ {A : Type 0} {s : List ℕ} (f : A → First → ℕ → Step A) (fw : 
       let last : m - 1 ≡ n = omega arith in
       let there : getD keys′ (m - 1) 0 ≡ q = ap (λ (l : List ℕ). getD l (m - 1) 0) stored ∙ ap (λ (k : ℕ). getD (set keys n q) k 0) last ∙ getD-set-same keys n q 0 free in
       let b : NextIn from (length s) (value v (first q)) = rw (was .is, key .is) at (next-between s o from (w .inside)) in
-      record { some = omega arith; fits = omega (arith, ap length stored, length-set keys n q); inside = omega (arith, b); is = key .is ∙ ap first (sym there) }
+      record { count = count; fits = omega (arith, ap length stored, length-set keys n q); inside = omega (arith, b); is = key .is ∙ ap first (sym there) }

@@ -16,6 +16,7 @@ pub mod Forwarding
 pub mod Keying
 pub mod Lending
 pub mod Telling
+pub mod Ending
 pub mod Tabling
 pub mod Noting
 pub mod Celling
@@ -25,6 +26,8 @@ pub mod TableRows
 pub mod Starting
 pub mod Threading
 pub mod Summing
+pub mod Valuing
+pub mod Processing
 pub mod Orders
 pub mod LeastRepeats
 pub mod Comparing

@@ -10,7 +10,7 @@ use Rattle.dcfg.specs.declared.passed.Passed.{Passed}
 use Rattle.dcfg.specs.declared.passed.Passed.the-variants.{To, Refused}
 use Rattle.dcfg.specs.declared.listing.Listing.{Listing}
 use Rattle.dcfg.specs.declared.running.Running.{Running}
-use Rattle.dcfg.specs.Reading.{Step, go, halt, stop, Fold, fold, noted, unlessRepeated}
+use Rattle.dcfg.specs.Reading.{Step, go, halt, stop, fold, noted, unlessRepeated}
 use Rattle.dcfg.specs.Kinds.{noting}
 use Rattle.dcfg.specs.Private.{stepOf}
 use Rattle.dcfg.specs.Lent.{documentOf, Told, to, off, telling, toldBy, carried}

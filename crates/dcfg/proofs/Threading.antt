@@ -4,36 +4,33 @@ use mathlib.Core.Path.{_≡_, refl, sym, ap, _∙_, subst}
 use mathlib.Core.Bool.{Bool, true, false}
 use mathlib.Core.List.{List, [], _∷_, _++_}
 use native.Mathlib.Omega.{arith}
-use native.Mathlib.Numerals.{add-one}
 use borrow.Author.Tests.{lt-ltb, le-ltb}
 use lib.Dec.{eqb, ltb}
 use lib.ListN.{length, set, take}
-use lib.Seq.{sets}
 use Rattle.refusal.specs.Refusal.{numberOf}
 use Rattle.refusal.specs.declared.Refusal.{Refusal}
 use Rattle.refusal.specs.declared.Refusal.the-variants.{ListCount}
 use Rattle.json.specs.declared.Read.{Read}
 use Rattle.json.specs.Bytes.{byteAt}
-use Rattle.json.proofs.Tests.{told, clash}
+use Rattle.json.proofs.Tests.{clash}
 use Rattle.dcfg.specs.declared.entries.Entry.{Entry}
 use Rattle.dcfg.specs.declared.entries.Entry.the-variants.{Value, Over}
 use Rattle.dcfg.specs.declared.passed.Passed.{Passed}
 use Rattle.dcfg.specs.declared.passed.Passed.the-variants.{To, Refused}
 use Rattle.dcfg.specs.declared.kinds.Got.{Got}
 use Rattle.dcfg.specs.declared.kinds.Got.the-variants.{Is, Not}
-use Rattle.dcfg.specs.declared.listing.Listing.{Listing}
 use Rattle.dcfg.specs.declared.running.Running.{Running}
 use Rattle.dcfg.specs.declared.running.Ran.{Ran}
 use Rattle.dcfg.specs.declared.running.Ran.the-variants.{On, Off}
-use Rattle.dcfg.specs.Repeated.{First, none}
+use Rattle.dcfg.specs.Repeated.{none}
 use Rattle.dcfg.specs.Entries.{nextIn}
-use Rattle.dcfg.specs.Reading.{Step, go, halt, stop, Fold, fold, ended, pass, noted}
-use Rattle.dcfg.specs.Kinds.{noting, wrong, anInteger}
+use Rattle.dcfg.specs.Reading.{Step, go, halt, stop, Fold, ended, pass}
+use Rattle.dcfg.specs.Kinds.{wrong, anInteger}
 use Rattle.dcfg.specs.Document.{Document, withThread}
 use Rattle.dcfg.specs.Processes.{Process, counted, threadAt, threadsAt}
 use Rattle.dcfg.specs.Private.{stepOf, integerStepOf, entryOf, keptOf, Room}
-use Rattle.dcfg.specs.Lent.{rowsIn, documentOf, Told, to, off, telling, Lent, Kept, Added}
-use Rattle.dcfg.specs.Running.{processOf, ranBy, ranOf, threadsRan, edgesRan, Carried, ThreadsRead}
+use Rattle.dcfg.specs.Lent.{rowsIn, documentOf, off, telling, Lent, Kept, Added}
+use Rattle.dcfg.specs.Running.{processOf, ranBy, ranOf, threadsRan, edgesRan, hadRan, Carried, ThreadsRead}
 use Rattle.dcfg.proofs.Holding.{Held, held-start}
 use Rattle.dcfg.proofs.Passing.{Opening}
 use Rattle.dcfg.proofs.Walking.{Walking, Met, Over-with, walk-start, walk-over, walk-value, walk-in, walk-go, walk-halt}
@@ -64,6 +61,7 @@ module _ (run : Running) {counts : List ℕ} (lent : Lent 2 256 (run .list .thre
     says = λ edges. rw (le-ltb (length (rowsIn 2 (run .list .threads) counts)) 256 (omega (arith, length-rowsIn 2 (run .list .threads) counts)), withThread);
     threads-kept = kept-most (kept-same lent);
     edges-same = refl;
+    had-same = refl;
     few = omega arith;
   }
 
@@ -84,6 +82,7 @@ module _ (run : Running) {counts : List ℕ} (lent : Lent 2 256 (run .list .thre
       says = λ edges. rw (lt-ltb (length (rowsIn 2 (run .list .threads) counts)) 256 (omega (arith, length-rowsIn 2 (run .list .threads) counts)), withThread, added .listed, e);
       threads-kept = record { grown = omega arith; few = omega arith; behind = added .behind };
       edges-same = refl;
+      had-same = refl;
       few = l;
     }
 
@@ -114,6 +113,7 @@ pub record ThreadsLoop (s : List ℕ) (index at : ℕ) (keys₀ : List ℕ) (top
   pub long : length counts ≡ length counts₀
   pub few : run .carries ≤ run .list .threads
   pub edges-same : run .list .edges ≡ first .list .edges
+  pub had-same : run .had ≡ first .had
 
 pub threads-not : (s : List ℕ) (index i : ℕ) (first : Running) {counts : List ℕ} → Lent 2 256 (first .list .threads) counts → first .carries ≤ first .list .threads
     → (out : Passed) → eqb (byteAt s i) 91 ≡ false → stepOf out ≡ wrong s i → {r : Ran} → r ≡ ranOf out first → ThreadsRead (λ a. threadsAt s index a i) first counts r counts
@@ -122,6 +122,7 @@ threads-not s index i first {counts} lent few out e f {r} q = subst (λ (x : Ran
   says = λ edges. ran-told out first edges counts ∙ ap (λ (x : Step (Unit {0})). heard x (processOf first edges counts)) f ∙ heard-noting (wrong s i) (processOf first edges counts) ∙ rw (e, threadsAt);
   threads-kept = kept-by out;
   edges-same = same-by out;
+  had-same = had-by out;
   few = few-by out;
 })
   where
@@ -132,6 +133,10 @@ threads-not s index i first {counts} lent few out e f {r} q = subst (λ (x : Ran
     same-by : (o : Passed) → edgesRan (first .list .edges) (ranOf o first) ≡ first .list .edges
     same-by (To n) = refl
     same-by (Refused why place) = refl
+
+    had-by : (o : Passed) → hadRan (first .had) (ranOf o first) ≡ first .had
+    had-by (To n) = refl
+    had-by (Refused why place) = refl
 
     few-by : (o : Passed) → Carried (ranOf o first)
     few-by (To n) = few
@@ -150,6 +155,7 @@ module _ {s : List ℕ} (index : ℕ) {at : ℕ} (e : eqb (byteAt s at) 91 ≡ t
     long = refl;
     few = l;
     edges-same = refl;
+    had-same = refl;
   }
 
   module _ {keys counts : List ℕ} {run : Running} {from : ℕ} (l : ThreadsLoop s index at keys₀ top counts₀ first keys counts run from) where
@@ -170,6 +176,7 @@ module _ {s : List ℕ} (index : ℕ) {at : ℕ} (e : eqb (byteAt s at) 91 ≡ t
                 ∙ ap (λ (o : Fold Process). telling (ended o)) (done edges .rest) ∙ rw (e, threadsAt);
             threads-kept = kept-by out;
             edges-same = same-by out;
+            had-same = had-by out;
             few = few-by out;
           }),
           held-below w (l .held) (done [] .same-keys),
@@ -182,6 +189,10 @@ module _ {s : List ℕ} (index : ℕ) {at : ℕ} (e : eqb (byteAt s at) 91 ≡ t
             same-by : (o : Passed) → edgesRan (first .list .edges) (ranOf o run) ≡ first .list .edges
             same-by (To n) = l .edges-same
             same-by (Refused why place) = refl
+
+            had-by : (o : Passed) → hadRan (first .had) (ranOf o run) ≡ first .had
+            had-by (To n) = l .had-same
+            had-by (Refused why place) = refl
 
             few-by : (o : Passed) → Carried (ranOf o run)
             few-by (To n) = l .few
@@ -203,7 +214,7 @@ module _ {s : List ℕ} (index : ℕ) {at : ℕ} (e : eqb (byteAt s at) 91 ≡ t
 
           pub threads-halt : {why : Refusal} {place : ℕ} → got ≡ Not why place → ThreadsRead (λ a. threadsAt s index a at) first counts₀ (Off why place) counts × (take top keys″ ≡ take top keys₀)
           threads-halt g = (
-            record { says = stopped (λ edges. thread-not s index v f g (processOf run edges counts)); threads-kept = kept-most (l .kept); edges-same = refl; few = omega arith },
+            record { says = stopped (λ edges. thread-not s index v f g (processOf run edges counts)); threads-kept = kept-most (l .kept); edges-same = refl; had-same = refl; few = omega arith },
             call-below w (l .held) (met [] .same-keys) keys″ len lower,
           )
 
@@ -219,6 +230,7 @@ module _ {s : List ℕ} (index : ℕ) {at : ℕ} (e : eqb (byteAt s at) 91 ≡ t
                   says = stopped (λ edges. thread-is s index v f g (processOf run edges counts) ∙ told-halt (counted (processOf run edges counts) count (withThread (index ∷ count ∷ []) (documentOf (run .list) edges counts) next)) (ap (λ (o : Ran). ranBy o edges counts′) (sym q) ∙ p .says edges));
                   threads-kept = kept-trans (l .kept) (subst (λ (o : Ran). Kept 2 256 (run .list .threads) counts (threadsRan 256 o) counts′) q (p .threads-kept));
                   edges-same = refl;
+                  had-same = refl;
                   few = omega arith;
                 }),
                 call-below w (l .held) (met [] .same-keys) keys″ len lower,
@@ -243,4 +255,5 @@ module _ {s : List ℕ} (index : ℕ) {at : ℕ} (e : eqb (byteAt s at) 91 ≡ t
                   long = same ∙ l .long;
                   few = subst Carried q (p .few);
                   edges-same = subst (λ (o : Ran). edgesRan (run .list .edges) o ≡ run .list .edges) q (p .edges-same) ∙ l .edges-same;
+                  had-same = subst (λ (o : Ran). hadRan (run .had) o ≡ run .had) q (p .had-same) ∙ l .had-same;
                 }

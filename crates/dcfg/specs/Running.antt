@@ -44,6 +44,11 @@ abbrev pub threadsRan : ℕ → Ran → ℕ
 threadsRan any (On n r) = r .list .threads
 threadsRan any (Off why place) = any
 
+-- The needed keys that it had.
+abbrev pub hadRan : ℕ → Ran → ℕ
+hadRan any (On n r) = r .had
+hadRan any (Off why place) = any
+
 -- The same with something more known.
 abbrev pub ranOf : Passed → Running → Ran
 ranOf (To n) r = On n r
@@ -91,6 +96,7 @@ pub record ThreadsRead (step : Process → Step Process) (r : Running) (threads 
   pub says : (edges : List ℕ) → ranBy out edges threads′ ≡ telling (step (processOf r edges threads))
   pub threads-kept : Kept 2 256 (r .list .threads) threads (threadsRan 256 out) threads′
   pub edges-same : edgesRan (r .list .edges) out ≡ r .list .edges
+  pub had-same : hadRan (r .had) out ≡ r .had
   pub few : Carried out
 
 -- The value of one of its keys.
@@ -98,6 +104,7 @@ pub record KeyRead (step : Process → Step Process) (r : Running) (edges thread
   pub says : ranBy out edges′ threads′ ≡ telling (step (processOf r edges threads))
   pub edges-kept : Kept 5 4096 (r .list .edges) edges (edgesRan 4096 out) edges′
   pub threads-kept : Kept 2 256 (r .list .threads) threads (threadsRan 256 out) threads′
+  pub had-more : hadRan (r .had) out ≤ r .had + 1
   pub few : Carried out
 
 -- The value of a key of the top object, by the key's number.

@@ -9,6 +9,7 @@ mod kinds;
 mod listing;
 mod names;
 mod passed;
+mod process;
 mod repeats;
 mod row;
 mod running;

@@ -1,5 +1,4 @@
 -- `dcfg::running::sums` meets its contract: a carry is above any INSTR_COUNT. Assumes nothing.
-use Prim.Native.Nat.{_+_, _*_}
 use mathlib.Core.Path.{sym}
 use native.Mathlib.Omega.{arith}
 use Rattle.dcfg.proofs.Summing.{sums-carried, sums-none}

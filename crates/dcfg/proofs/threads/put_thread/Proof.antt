@@ -2,7 +2,7 @@
 use native.Mathlib.Omega.{arith}
 use borrow.Author.Needs.{needs}
 use lib.ListN.{length-set}
-use Prim.Native.Nat.{_+_, _-_, _*_}
+use Prim.Native.Nat.{_+_, _-_}
 use Rattle.dcfg.proofs.Threading.{put-over, put-in}
 use Rattle.dcfg.proofs.threads.put_thread.Statement.{statement}
 use Rattle.dcfg.proofs.threads.put_thread.Tie as tie

@@ -1,6 +1,5 @@
 -- `dcfg::threads::threads` meets its contract: its loop makes the definition's pass. Assumes nothing.
 use Prim.Native.Nat.{_-_}
-use native.Mathlib.Omega.{arith}
 use borrow.Author.Needs.{needs}
 use lib.ListN.{length}
 use Rattle.json.proofs.Tests.{was, was-not}

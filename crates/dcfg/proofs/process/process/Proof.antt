@@ -1,0 +1,155 @@
+-- `dcfg::process::process` meets its contract: its loop makes the definition's pass. Assumes nothing.
+use Prim.Native.Nat.{_-_}
+use mathlib.Core.Path.{refl, _∙_}
+use native.Mathlib.Omega.{arith}
+use borrow.Author.Needs.{needs}
+use lib.ListN.{length}
+use Rattle.json.proofs.Tests.{was, was-not}
+use Rattle.dcfg.proofs.Processing.{ProcessLoop, process-not, process-start, process-member, over-settles, over-ends, key-place, value-ready, process-less, process-next, halt-settles, halt-ends}
+use Rattle.dcfg.proofs.process.process.Statement.{statement}
+use Rattle.dcfg.proofs.process.process.Tie as tie
+
+abbrev Inv-loop : tie.InvT-loop
+Inv-loop text at index keys₀ top edges₀ counts₀ run₀ from₀ n₀ keys edges counts run from n = ProcessLoop text index at keys₀ top edges₀ counts₀ run₀ keys edges counts run from n
+
+abbrev μ-loop : tie.MeasureT-loop
+μ-loop text at index keys₀ top edges₀ counts₀ run₀ from₀ n₀ keys edges counts run from n = length text - from
+
+byte-requires : tie.Need-byte-requires Inv-loop μ-loop
+byte-requires c κs = search needs
+
+wrong-requires : tie.Need-wrong-requires Inv-loop μ-loop
+wrong-requires c κs = search needs
+
+carry-requires : tie.Need-carry-requires Inv-loop μ-loop
+carry-requires c κs = search needs
+
+same-length : tie.Need-same-length Inv-loop μ-loop
+same-length c = search needs
+
+returns : tie.Need-returns Inv-loop μ-loop
+returns c = (process-not _ _ _ (c .before .before .before .before .before .before .before .before .before .before .before .args .list) (c .before .before .before .before .before .before .before .before .before .before .before .pre .1) (c .before .before .before .before .before .before .before .before .before .before .before .pre .2) (c .before .before .before .wrong .result) (was-not (c .before .before .before .before .before .before .byte .ensures) (c .before .before .before .before .before .if1 .taken)) (c .before .before .before .wrong .ensures .0) (c .carry .ensures), c .before .before .before .wrong .ensures .1)
+
+loop-holds : tie.Need-loop-holds Inv-loop μ-loop
+loop-holds c = process-start (c .before .before .before .before .before .before .args .index) (was (c .before .byte .ensures) (c .if1 .left)) (c .before .before .before .before .before .before .pre .0) (c .before .before .before .before .before .before .args .list) (c .before .before .before .before .before .before .pre .1) (c .before .before .before .before .before .before .pre .2)
+
+member-requires : tie.Need-member-requires Inv-loop μ-loop
+member-requires c κs = process-member (c .before .before .before .before .before .before .before .before .args .index) (was (c .before .before .before .byte .ensures) (c .before .before .if1 .left)) (c .before .before .before .before .before .before .before .before .pre .0) (c .before .before .before .before .before .before .before .before .args .list) (c .before .before .before .before .before .before .before .before .pre .1) (c .before .before .before .before .before .before .before .before .pre .2) (c .before .loop .inv)
+
+enum-known-read : tie.Need-enum-known-read Inv-loop μ-loop
+enum-known-read c = search needs
+
+told-requires : tie.Need-told-requires Inv-loop μ-loop
+told-requires c κs = search needs
+
+settle-requires : tie.Need-settle-requires Inv-loop μ-loop
+settle-requires c κs = over-settles (c .before .before .before .before .before .before .before .before .before .before .before .before .before .before .before .before .args .index) (was (c .before .before .before .before .before .before .before .before .before .before .before .byte .ensures) (c .before .before .before .before .before .before .before .before .before .before .if1 .left)) (c .before .before .before .before .before .before .before .before .before .before .before .before .before .before .before .before .pre .0) (c .before .before .before .before .before .before .before .before .before .before .before .before .before .before .before .before .args .list) (c .before .before .before .before .before .before .before .before .before .before .before .before .before .before .before .before .pre .1) (c .before .before .before .before .before .before .before .before .before .before .before .before .before .before .before .before .pre .2) (c .before .before .before .before .before .before .before .before .before .loop .inv) (c .before .before .before .before .before .before .before .member .ensures .0) (c .before .before .before .before .before .before .before .member .ensures .1) (c .before .before .before .read .given .1)
+
+judged-requires : tie.Need-judged-requires Inv-loop μ-loop
+judged-requires c κs = search needs
+
+carry-requires-2 : tie.Need-carry-requires-2 Inv-loop μ-loop
+carry-requires-2 c κs = search needs
+
+same-length-2 : tie.Need-same-length-2 Inv-loop μ-loop
+same-length-2 c = search needs
+
+same-length-3 : tie.Need-same-length-3 Inv-loop μ-loop
+same-length-3 c = search needs
+
+same-length-4 : tie.Need-same-length-4 Inv-loop μ-loop
+same-length-4 c = search needs
+
+returns-2 : tie.Need-returns-2 Inv-loop μ-loop
+returns-2 c = over-ends (c .before .before .before .before .before .before .before .before .before .before .before .before .before .before .before .before .before .before .before .before .before .args .index) (was (c .before .before .before .before .before .before .before .before .before .before .before .before .before .before .before .before .byte .ensures) (c .before .before .before .before .before .before .before .before .before .before .before .before .before .before .before .if1 .left)) (c .before .before .before .before .before .before .before .before .before .before .before .before .before .before .before .before .before .before .before .before .before .pre .0) (c .before .before .before .before .before .before .before .before .before .before .before .before .before .before .before .before .before .before .before .before .before .args .list) (c .before .before .before .before .before .before .before .before .before .before .before .before .before .before .before .before .before .before .before .before .before .pre .1) (c .before .before .before .before .before .before .before .before .before .before .before .before .before .before .before .before .before .before .before .before .before .pre .2) (c .before .before .before .before .before .before .before .before .before .before .before .before .before .before .loop .inv) (c .before .before .before .before .before .before .before .before .before .before .before .before .member .ensures .0) (c .before .before .before .before .before .before .before .before .before .before .before .before .member .ensures .1) (c .before .before .before .before .before .before .before .before .read .given .1) (c .before .before .before .before .settle .result) (c .before .before .before .before .settle .ensures .0) (c .before .before .before .before .before .told .ensures) (c .before .before .before .before .settle .last .1 .1 .0) (c .before .before .before .before .settle .ensures .1) (c .before .judged .ensures) (c .carry2 .ensures)
+
+enum-known-value : tie.Need-enum-known-value Inv-loop μ-loop
+enum-known-value c = search needs
+
+sub-key : tie.Need-sub-key Inv-loop μ-loop
+sub-key c = omega (arith, key-place (c .before .before .before .before .before .before .before .before .before .before .before .before .before .before .args .index) (was (c .before .before .before .before .before .before .before .before .before .byte .ensures) (c .before .before .before .before .before .before .before .before .if1 .left)) (c .before .before .before .before .before .before .before .before .before .before .before .before .before .before .pre .0) (c .before .before .before .before .before .before .before .before .before .before .before .before .before .before .args .list) (c .before .before .before .before .before .before .before .before .before .before .before .before .before .before .pre .1) (c .before .before .before .before .before .before .before .before .before .before .before .before .before .before .pre .2) (c .before .before .before .before .before .before .before .loop .inv) (c .before .before .before .before .before .member .ensures .0) (c .before .before .before .before .before .member .ensures .1) (c .before .value .given .1))
+
+mul-key : tie.Need-mul-key Inv-loop μ-loop
+mul-key c = omega (arith, key-place (c .before .before .before .before .before .before .before .before .before .before .before .before .before .before .args .index) (was (c .before .before .before .before .before .before .before .before .before .byte .ensures) (c .before .before .before .before .before .before .before .before .if1 .left)) (c .before .before .before .before .before .before .before .before .before .before .before .before .before .before .pre .0) (c .before .before .before .before .before .before .before .before .before .before .before .before .before .before .args .list) (c .before .before .before .before .before .before .before .before .before .before .before .before .before .before .pre .1) (c .before .before .before .before .before .before .before .before .before .before .before .before .before .before .pre .2) (c .before .before .before .before .before .before .before .loop .inv) (c .before .before .before .before .before .member .ensures .0) (c .before .before .before .before .before .member .ensures .1) (c .before .value .given .1))
+
+slice-read-key : tie.Need-slice-read-key Inv-loop μ-loop
+slice-read-key c = omega (arith, key-place (c .before .before .before .before .before .before .before .before .before .before .before .before .before .before .before .args .index) (was (c .before .before .before .before .before .before .before .before .before .before .byte .ensures) (c .before .before .before .before .before .before .before .before .before .if1 .left)) (c .before .before .before .before .before .before .before .before .before .before .before .before .before .before .before .pre .0) (c .before .before .before .before .before .before .before .before .before .before .before .before .before .before .before .args .list) (c .before .before .before .before .before .before .before .before .before .before .before .before .before .before .before .pre .1) (c .before .before .before .before .before .before .before .before .before .before .before .before .before .before .before .pre .2) (c .before .before .before .before .before .before .before .before .loop .inv) (c .before .before .before .before .before .before .member .ensures .0) (c .before .before .before .before .before .before .member .ensures .1) (c .before .before .value .given .1))
+
+cast-key : tie.Need-cast-key Inv-loop μ-loop
+cast-key c = omega (arith, key-place (c .before .before .before .before .before .before .before .before .before .before .before .before .before .before .before .args .index) (was (c .before .before .before .before .before .before .before .before .before .before .byte .ensures) (c .before .before .before .before .before .before .before .before .before .if1 .left)) (c .before .before .before .before .before .before .before .before .before .before .before .before .before .before .before .pre .0) (c .before .before .before .before .before .before .before .before .before .before .before .before .before .before .before .args .list) (c .before .before .before .before .before .before .before .before .before .before .before .before .before .before .before .pre .1) (c .before .before .before .before .before .before .before .before .before .before .before .before .before .before .before .pre .2) (c .before .before .before .before .before .before .before .before .loop .inv) (c .before .before .before .before .before .before .member .ensures .0) (c .before .before .before .before .before .before .member .ensures .1) (c .before .before .value .given .1))
+
+process-key-requires : tie.Need-process-key-requires Inv-loop μ-loop
+process-key-requires c κs = key-place (c .before .before .before .before .before .before .before .before .before .before .before .before .before .before .before .args .index) (was (c .before .before .before .before .before .before .before .before .before .before .byte .ensures) (c .before .before .before .before .before .before .before .before .before .if1 .left)) (c .before .before .before .before .before .before .before .before .before .before .before .before .before .before .before .pre .0) (c .before .before .before .before .before .before .before .before .before .before .before .before .before .before .before .args .list) (c .before .before .before .before .before .before .before .before .before .before .before .before .before .before .before .pre .1) (c .before .before .before .before .before .before .before .before .before .before .before .before .before .before .before .pre .2) (c .before .before .before .before .before .before .before .before .loop .inv) (c .before .before .before .before .before .before .member .ensures .0) (c .before .before .before .before .before .before .member .ensures .1) (c .before .before .value .given .1) .2
+
+key-value-requires : tie.Need-key-value-requires Inv-loop μ-loop
+key-value-requires c κs = value-ready (c .before .before .before .before .before .before .before .before .before .before .before .before .before .before .before .before .before .before .before .args .index) (was (c .before .before .before .before .before .before .before .before .before .before .before .before .before .before .byte .ensures) (c .before .before .before .before .before .before .before .before .before .before .before .before .before .if1 .left)) (c .before .before .before .before .before .before .before .before .before .before .before .before .before .before .before .before .before .before .before .pre .0) (c .before .before .before .before .before .before .before .before .before .before .before .before .before .before .before .before .before .before .before .args .list) (c .before .before .before .before .before .before .before .before .before .before .before .before .before .before .before .before .before .before .before .pre .1) (c .before .before .before .before .before .before .before .before .before .before .before .before .before .before .before .before .before .before .before .pre .2) (c .before .before .before .before .before .before .before .before .before .before .before .before .loop .inv) (c .before .before .before .before .before .before .before .before .before .before .member .ensures .0) (c .before .before .before .before .before .before .before .before .before .before .member .ensures .1) (c .before .before .before .before .before .before .value .given .1)
+
+enum-known-next : tie.Need-enum-known-next Inv-loop μ-loop
+enum-known-next c = search needs
+
+loop-less : tie.Need-loop-less Inv-loop μ-loop
+loop-less c = process-less (c .before .before .before .before .before .before .before .before .before .before .before .before .before .before .before .before .before .before .before .before .before .before .before .before .before .before .before .before .before .args .index) (was (c .before .before .before .before .before .before .before .before .before .before .before .before .before .before .before .before .before .before .before .before .before .before .before .before .byte .ensures) (c .before .before .before .before .before .before .before .before .before .before .before .before .before .before .before .before .before .before .before .before .before .before .before .if1 .left)) (c .before .before .before .before .before .before .before .before .before .before .before .before .before .before .before .before .before .before .before .before .before .before .before .before .before .before .before .before .before .pre .0) (c .before .before .before .before .before .before .before .before .before .before .before .before .before .before .before .before .before .before .before .before .before .before .before .before .before .before .before .before .before .args .list) (c .before .before .before .before .before .before .before .before .before .before .before .before .before .before .before .before .before .before .before .before .before .before .before .before .before .before .before .before .before .pre .1) (c .before .before .before .before .before .before .before .before .before .before .before .before .before .before .before .before .before .before .before .before .before .before .before .before .before .before .before .before .before .pre .2) (c .before .before .before .before .before .before .before .before .before .before .before .before .before .before .before .before .before .before .before .before .before .before .loop .inv) (c .before .before .before .before .before .before .before .before .before .before .before .before .before .before .before .before .before .before .before .before .member .ensures .0) (c .before .before .before .before .before .before .before .before .before .before .before .before .before .before .before .before .before .before .before .before .member .ensures .1) (c .before .before .before .before .before .before .before .before .before .before .before .before .before .before .before .before .value .given .1) (c .before .before .before .before .before .before .before .before .before .before .before .before .before .process-key .ensures) (c .before .before .before .before .before .before .before .before .before .key-value .ensures .0) (c .before .before .before .before .before .before .before .before .before .key-value .kept .1 .1 .1 .1 .1 .1 .0) (c .before .before .before .before .before .before .before .before .before .key-value .kept .1 .1 .1 .1 .1 .1 .1 .0) (c .before .before .before .before .before .before .before .before .before .key-value .last .1 .1 .1 .1 .0) (c .before .before .before .before .before .before .before .before .before .key-value .kept .1 .1 .1 .1 .0) (c .before .before .before .before .before .before .before .before .before .key-value .ensures .1) (c .before .next .given .1)
+
+loop-again : tie.Need-loop-again Inv-loop μ-loop
+loop-again c = process-next (c .before .before .before .before .before .before .before .before .before .before .before .before .before .before .before .before .before .before .before .before .before .before .before .before .before .before .before .before .before .args .index) (was (c .before .before .before .before .before .before .before .before .before .before .before .before .before .before .before .before .before .before .before .before .before .before .before .before .byte .ensures) (c .before .before .before .before .before .before .before .before .before .before .before .before .before .before .before .before .before .before .before .before .before .before .before .if1 .left)) (c .before .before .before .before .before .before .before .before .before .before .before .before .before .before .before .before .before .before .before .before .before .before .before .before .before .before .before .before .before .pre .0) (c .before .before .before .before .before .before .before .before .before .before .before .before .before .before .before .before .before .before .before .before .before .before .before .before .before .before .before .before .before .args .list) (c .before .before .before .before .before .before .before .before .before .before .before .before .before .before .before .before .before .before .before .before .before .before .before .before .before .before .before .before .before .pre .1) (c .before .before .before .before .before .before .before .before .before .before .before .before .before .before .before .before .before .before .before .before .before .before .before .before .before .before .before .before .before .pre .2) (c .before .before .before .before .before .before .before .before .before .before .before .before .before .before .before .before .before .before .before .before .before .before .loop .inv) (c .before .before .before .before .before .before .before .before .before .before .before .before .before .before .before .before .before .before .before .before .member .ensures .0) (c .before .before .before .before .before .before .before .before .before .before .before .before .before .before .before .before .before .before .before .before .member .ensures .1) (c .before .before .before .before .before .before .before .before .before .before .before .before .before .before .before .before .value .given .1) (c .before .before .before .before .before .before .before .before .before .before .before .before .before .process-key .ensures) (c .before .before .before .before .before .before .before .before .before .key-value .ensures .0) (c .before .before .before .before .before .before .before .before .before .key-value .kept .1 .1 .1 .1 .1 .1 .0) (c .before .before .before .before .before .before .before .before .before .key-value .kept .1 .1 .1 .1 .1 .1 .1 .0) (c .before .before .before .before .before .before .before .before .before .key-value .last .1 .1 .1 .1 .0) (c .before .before .before .before .before .before .before .before .before .key-value .kept .1 .1 .1 .1 .0) (c .before .before .before .before .before .before .before .before .before .key-value .ensures .1) (c .before .next .given .1)
+
+enum-known-why : tie.Need-enum-known-why Inv-loop μ-loop
+enum-known-why c = search needs
+
+settle-requires-2 : tie.Need-settle-requires-2 Inv-loop μ-loop
+settle-requires-2 c κs = halt-settles (c .before .before .before .before .before .before .before .before .before .before .before .before .before .before .before .before .before .before .before .before .before .before .before .before .before .before .before .before .before .before .args .index) (was (c .before .before .before .before .before .before .before .before .before .before .before .before .before .before .before .before .before .before .before .before .before .before .before .before .before .byte .ensures) (c .before .before .before .before .before .before .before .before .before .before .before .before .before .before .before .before .before .before .before .before .before .before .before .before .if1 .left)) (c .before .before .before .before .before .before .before .before .before .before .before .before .before .before .before .before .before .before .before .before .before .before .before .before .before .before .before .before .before .before .pre .0) (c .before .before .before .before .before .before .before .before .before .before .before .before .before .before .before .before .before .before .before .before .before .before .before .before .before .before .before .before .before .before .args .list) (c .before .before .before .before .before .before .before .before .before .before .before .before .before .before .before .before .before .before .before .before .before .before .before .before .before .before .before .before .before .before .pre .1) (c .before .before .before .before .before .before .before .before .before .before .before .before .before .before .before .before .before .before .before .before .before .before .before .before .before .before .before .before .before .before .pre .2) (c .before .before .before .before .before .before .before .before .before .before .before .before .before .before .before .before .before .before .before .before .before .before .before .loop .inv) (c .before .before .before .before .before .before .before .before .before .before .before .before .before .before .before .before .before .before .before .before .before .member .ensures .0) (c .before .before .before .before .before .before .before .before .before .before .before .before .before .before .before .before .before .before .before .before .before .member .ensures .1) (c .before .before .before .before .before .before .before .before .before .before .before .before .before .before .before .before .before .value .given .1) (c .before .before .before .before .before .before .before .before .before .before .before .before .before .before .process-key .ensures) (c .before .before .before .before .before .before .before .before .before .before .key-value .ensures .0) (c .before .before .before .before .before .before .before .before .before .before .key-value .kept .1 .1 .1 .1 .1 .1 .0) (c .before .before .before .before .before .before .before .before .before .before .key-value .kept .1 .1 .1 .1 .1 .1 .1 .0) (c .before .before .before .before .before .before .before .before .before .before .key-value .last .1 .1 .1 .1 .0) (c .before .before .before .before .before .before .before .before .before .before .key-value .kept .1 .1 .1 .1 .0) (c .before .before .before .before .before .before .before .before .before .before .key-value .ensures .1) (c .before .before .why .given .1)
+
+carry-requires-3 : tie.Need-carry-requires-3 Inv-loop μ-loop
+carry-requires-3 c κs = search needs
+
+same-length-5 : tie.Need-same-length-5 Inv-loop μ-loop
+same-length-5 c = c .before .before .before .before .settle2 .kept .1 .1 .0 ∙ c .before .before .before .before .before .before .before .before .before .before .before .before .before .before .before .key-value .kept .1 .1 .1 .1 .0 ∙ c .before .before .before .before .before .before .before .before .before .before .before .before .before .before .before .before .before .before .before .before .before .before .before .before .before .before .member .kept .1 .1 .1 .0 ∙ c .before .before .before .before .before .before .before .before .before .before .before .before .before .before .before .before .before .before .before .before .before .before .before .before .before .before .before .before .loop .inv .passing .held .long
+
+same-length-6 : tie.Need-same-length-6 Inv-loop μ-loop
+same-length-6 c = c .before .before .before .before .before .before .before .before .before .before .before .before .before .before .before .key-value .kept .1 .1 .1 .1 .1 .1 .0 ∙ c .before .before .before .before .before .before .before .before .before .before .before .before .before .before .before .before .before .before .before .before .before .before .before .before .before .before .before .before .loop .inv .since .edges-long
+
+same-length-7 : tie.Need-same-length-7 Inv-loop μ-loop
+same-length-7 c = c .before .before .before .before .before .before .before .before .before .before .before .before .before .before .before .key-value .kept .1 .1 .1 .1 .1 .1 .1 .0 ∙ c .before .before .before .before .before .before .before .before .before .before .before .before .before .before .before .before .before .before .before .before .before .before .before .before .before .before .before .before .loop .inv .since .threads-long
+
+returns-3 : tie.Need-returns-3 Inv-loop μ-loop
+returns-3 c = halt-ends (c .before .before .before .before .before .before .before .before .before .before .before .before .before .before .before .before .before .before .before .before .before .before .before .before .before .before .before .before .before .before .before .before .before .before .before .args .index) (was (c .before .before .before .before .before .before .before .before .before .before .before .before .before .before .before .before .before .before .before .before .before .before .before .before .before .before .before .before .before .before .byte .ensures) (c .before .before .before .before .before .before .before .before .before .before .before .before .before .before .before .before .before .before .before .before .before .before .before .before .before .before .before .before .before .if1 .left)) (c .before .before .before .before .before .before .before .before .before .before .before .before .before .before .before .before .before .before .before .before .before .before .before .before .before .before .before .before .before .before .before .before .before .before .before .pre .0) (c .before .before .before .before .before .before .before .before .before .before .before .before .before .before .before .before .before .before .before .before .before .before .before .before .before .before .before .before .before .before .before .before .before .before .before .args .list) (c .before .before .before .before .before .before .before .before .before .before .before .before .before .before .before .before .before .before .before .before .before .before .before .before .before .before .before .before .before .before .before .before .before .before .before .pre .1) (c .before .before .before .before .before .before .before .before .before .before .before .before .before .before .before .before .before .before .before .before .before .before .before .before .before .before .before .before .before .before .before .before .before .before .before .pre .2) (c .before .before .before .before .before .before .before .before .before .before .before .before .before .before .before .before .before .before .before .before .before .before .before .before .before .before .before .before .loop .inv) (c .before .before .before .before .before .before .before .before .before .before .before .before .before .before .before .before .before .before .before .before .before .before .before .before .before .before .member .ensures .0) (c .before .before .before .before .before .before .before .before .before .before .before .before .before .before .before .before .before .before .before .before .before .before .before .before .before .before .member .ensures .1) (c .before .before .before .before .before .before .before .before .before .before .before .before .before .before .before .before .before .before .before .before .before .before .value .given .1) (c .before .before .before .before .before .before .before .before .before .before .before .before .before .before .before .before .before .before .before .process-key .ensures) (c .before .before .before .before .before .before .before .before .before .before .before .before .before .before .before .key-value .ensures .0) (c .before .before .before .before .before .before .before .before .before .before .before .before .before .before .before .key-value .kept .1 .1 .1 .1 .1 .1 .0) (c .before .before .before .before .before .before .before .before .before .before .before .before .before .before .before .key-value .kept .1 .1 .1 .1 .1 .1 .1 .0) (c .before .before .before .before .before .before .before .before .before .before .before .before .before .before .before .key-value .last .1 .1 .1 .1 .0) (c .before .before .before .before .before .before .before .before .before .before .before .before .before .before .before .key-value .kept .1 .1 .1 .1 .0) (c .before .before .before .before .before .before .before .before .before .before .before .before .before .before .before .key-value .ensures .1) (c .before .before .before .before .before .before .before .why .given .1) (c .before .before .before .before .settle2 .result) (c .before .before .before .before .settle2 .ensures .0) refl (c .before .before .before .before .settle2 .last .1 .1 .0) (c .before .before .before .before .settle2 .ensures .1) (c .carry3 .ensures)
+
+pub process-spec : {M : Type 1} → statement M
+process-spec =
+    tie.close
+    (tie.spec
+    Inv-loop
+    μ-loop
+    byte-requires
+    wrong-requires
+    carry-requires
+    same-length
+    returns
+    loop-holds
+    member-requires
+    enum-known-read
+    told-requires
+    settle-requires
+    judged-requires
+    carry-requires-2
+    same-length-2
+    same-length-3
+    same-length-4
+    returns-2
+    enum-known-value
+    sub-key
+    mul-key
+    slice-read-key
+    cast-key
+    process-key-requires
+    key-value-requires
+    enum-known-next
+    loop-less
+    loop-again
+    enum-known-why
+    settle-requires-2
+    carry-requires-3
+    same-length-5
+    same-length-6
+    same-length-7
+    returns-3)
