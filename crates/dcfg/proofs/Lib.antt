@@ -28,6 +28,9 @@ pub mod Threading
 pub mod Summing
 pub mod Valuing
 pub mod Processing
+pub mod ProcessCells
+pub mod ProcessRows
+pub mod ProcessTable
 pub mod Orders
 pub mod LeastRepeats
 pub mod Comparing

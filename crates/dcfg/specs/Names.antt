@@ -2,6 +2,7 @@
 use Prim.Native.Nat.{ℕ, zero, suc, _+_}
 use mathlib.Core.Bool.{true, false}
 use mathlib.Core.List.{List, [], _∷_}
+use lib.Dec.{ltb}
 use Rattle.dcfg.specs.Repeated.{same}
 
 abbrev pub MAJOR_VERSION : List ℕ
@@ -77,3 +78,7 @@ columnsOf (suc (suc (suc n))) = EDGE_ID ∷ SOURCE_NODE_ID ∷ TARGET_NODE_ID �
 unfoldable pub numberIn : ℕ → List (List ℕ) → List ℕ → ℕ
 numberIn k [] name = 5
 numberIn k (known ∷ names) name = elim (same known name) [ true ↦ k | false ↦ numberIn (k + 1) names name ]
+
+-- How many known ones were had, with the one of this number.
+abbrev pub knownWith : ℕ → ℕ → ℕ
+knownWith k had = elim (ltb k 5) [ true ↦ had + 1 | false ↦ had ]

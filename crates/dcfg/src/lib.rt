@@ -10,6 +10,7 @@ mod listing;
 mod names;
 mod passed;
 mod process;
+mod processes;
 mod repeats;
 mod row;
 mod running;

@@ -5,7 +5,7 @@ ghost use Prim.Native.Nat.{_<_};
 ghost use lib.ListN.{length};
 ghost use Rattle.json.specs.Chars.{nameAt, charsAt};
 ghost use Rattle.dcfg.specs.Repeated.{same};
-ghost use Rattle.dcfg.specs.Names.{numberIn, topKeys, processKeys, columnsOf};
+ghost use Rattle.dcfg.specs.Names.{numberIn, topKeys, processKeys, columnsOf, knownWith};
 use json::chars::Char;
 use json::chars::char_at;
 
@@ -134,4 +134,15 @@ pub fn column(text: &[u8], at: usize, table: usize) -> usize
         b"EDGE_TYPE_ID",
         b"COUNT_PER_THREAD",
     )
+}
+
+// How many known ones were had, with the one of the number `k`.
+pub fn known_with(k: usize, had: usize) -> usize
+    requires { ⌜ had < 4294967296 ⌝ }
+    ensures { λ r. ⌜ r ≡ knownWith k had ⌝ }
+{
+    if k < UNKNOWN {
+        return had + 1;
+    }
+    had
 }
