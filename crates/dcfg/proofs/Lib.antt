@@ -31,6 +31,8 @@ pub mod Processing
 pub mod ProcessCells
 pub mod ProcessRows
 pub mod ProcessTable
+pub mod Topping
+pub mod Finishing
 pub mod Orders
 pub mod LeastRepeats
 pub mod Comparing

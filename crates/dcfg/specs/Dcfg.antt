@@ -1,8 +1,8 @@
 -- A DCFG (paper 02, CR 6, over source document 000): the whole. Assumes nothing.
 use Prim.Native.Nat.{ℕ, _+_, _-_}
-use mathlib.Core.Bool.{Bool, true, false}
+use mathlib.Core.Bool.{true, false}
 use mathlib.Core.List.{List, [], _∷_, _++_}
-use lib.ListN.{length, drop}
+use lib.ListN.{length, drop, replicate}
 use lib.Dec.{eqb, ltb}
 use Rattle.json.specs.Bytes.{byteAt, space}
 use Rattle.dcfg.specs.Repeated.{First}
@@ -66,3 +66,31 @@ dcfg s edges threads = elim (ltb edges 20480) [
     | false ↦ elim (ltb 1048576 (length s)) [ true ↦ refused 30 0 | false ↦ whole s (topAt s (space s 0)) ]
   ]
 ]
+
+-- The edges and threads that are listed: "a refusal zeroes the lent tables".
+abbrev pub edgesListed : Answer → List (List ℕ)
+edgesListed (listed edges threads) = edges
+edgesListed (refused number place) = []
+
+abbrev pub threadsListed : Answer → List (List ℕ)
+threadsListed (listed edges threads) = threads
+threadsListed (refused number place) = []
+
+unfoldable pub flat : List (List ℕ) → List ℕ
+flat [] = []
+flat (row ∷ rows) = row ++ flat rows
+
+-- A lent table with these rows: zeros behind them; numbers past the largest result are never touched.
+unfoldable pub tableOf : ℕ → List (List ℕ) → List ℕ → List ℕ
+tableOf size rows old = flat rows ++ (replicate (size - length (flat rows)) 0 ++ drop size old)
+
+-- After 14 a table is untouched.
+abbrev pub unlessShort : ℕ → ℕ → List ℕ → List ℕ → List ℕ
+unlessShort edges threads old new = elim (ltb edges 20480) [ true ↦ old | false ↦ elim (ltb threads 512) [ true ↦ old | false ↦ new ] ]
+
+-- The lent tables after the text is read.
+abbrev pub edgesAfter : List ℕ → List ℕ → List ℕ → List ℕ
+edgesAfter s edges threads = unlessShort (length edges) (length threads) edges (tableOf 20480 (edgesListed (dcfg s (length edges) (length threads))) edges)
+
+abbrev pub threadsAfter : List ℕ → List ℕ → List ℕ → List ℕ
+threadsAfter s edges threads = unlessShort (length edges) (length threads) threads (tableOf 512 (threadsListed (dcfg s (length edges) (length threads))) threads)

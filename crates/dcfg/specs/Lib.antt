@@ -14,3 +14,4 @@ pub mod Private
 pub mod Lent
 pub mod Rows
 pub mod Running
+pub mod Answers
