@@ -116,6 +116,21 @@ enum {
  */
 uint32_t towercloak_stream_start(uint64_t *state, size_t numbers, uint32_t order);
 
+/* Feeds a stream the next length bytes of its log, which may be cut anywhere. The first four tests are those of
+ * towercloak_stream_end, in its order. Behind them:
+ *
+ * 20               These bytes would be more than 2^64 - 1 with those before them.
+ * 2 to 13, 19      The log is refused by the rule of this number, whatever follows.
+ * TOWERCLOAK_MORE  Neither. The table has the rows so far, as towercloak_replay has them, and zeros behind them.
+ *
+ * The four counts are 0, but where the stream has ended before with others. *place is where it was refused: as for
+ * towercloak_replay, and for 20 the number of bytes before. It is 0 for 14, 22 and TOWERCLOAK_MORE. 2 to 13, 19 and 20 end
+ * the stream, and leave TOWERCLOAK_TABLE zeros in the table.
+ */
+uint32_t towercloak_stream_feed(uint64_t *state, size_t state_numbers, const uint8_t *bytes, size_t length,
+                                uint64_t *table, size_t numbers, uint64_t *rows, uint64_t *buffers, uint64_t *records,
+                                uint64_t *open, uint64_t *place);
+
 /* Tells a stream its end. The tests are made in this order:
  *
  * 14           The state has fewer than TOWERCLOAK_STATE numbers.

@@ -1,4 +1,6 @@
-/* A stream from C: its start, its end at states that calls leave and at others, and the edges of what may be lent. */
+/* A stream from C: its start, logs in reads of every size, its end at states that calls leave and at others, and the edges
+ * of what may be lent.
+ */
 #include "checks.h"
 #include "towercloak.h"
 
@@ -124,6 +126,58 @@ static void run(const struct test *test, uint32_t order)
     expect(test->name, "the counts again", memcmp(counts, test->counts, sizeof counts) == 0);
 }
 
+/* Sample B of Paper 01: a buffer of 96 bytes with an Entry and an Exit of 5. All other bytes are 0. */
+enum { LENGTH = 128 };
+static const struct {
+    size_t place;
+    uint8_t byte;
+} sample[] = {{0, 1},   {2, 1},    {4, 3},  {9, 0xCA},  {10, 0x9A}, {11, 0x3B}, {16, 96},   {32, 1},  {33, 7},
+              {48, 9},  {64, 5},   {67, 0xE8}, {68, 3}, {80, 0x50}, {84, 10},   {88, 0x52}, {92, 30}, {96, 3}};
+
+/* Feeds a log in reads of a size, then tells the end: what is answered first but more. */
+static uint32_t feed(const char *name, const uint8_t *log, size_t size, uint64_t counts[4], uint64_t *place)
+{
+    start(name, LITTLE);
+    for (size_t at = 0; at < LENGTH; at += size) {
+        size_t length = size < LENGTH - at ? size : LENGTH - at;
+        uint32_t number = towercloak_stream_feed(state, STATE, log + at, length, table, TABLE, &counts[0], &counts[1],
+                                                 &counts[2], &counts[3], place);
+        if (number != TOWERCLOAK_MORE)
+            return number;
+        expect(name, "more", counts[0] == 0 && counts[1] == 0 && counts[2] == 0 && counts[3] == 0 && *place == 0);
+    }
+    return end(STATE, TABLE, counts, place);
+}
+
+/* B and logs with a byte of it changed, in reads of every size: as the whole log is replayed. */
+static void feed_all(void)
+{
+    static const struct {
+        const char *name;
+        size_t place;
+        uint8_t byte;
+    } logs[] = {{"B", 0, 1}, {"version 2", 0, 2}, {"type 2", 2, 2}, {"action 4", 88, 0x58}, {"kind 7", 88, 0x0F},
+                {"another Entry", 88, 0x50}, {"Exit of 6", 88, 0x62}, {"no EndOfBuffer", 96, 9}};
+    uint64_t counts[4], whole_counts[4], place, whole_place;
+    for (size_t i = 0; i < sizeof logs / sizeof logs[0]; i++) {
+        uint8_t log[LENGTH] = {0};
+        for (size_t k = 0; k < sizeof sample / sizeof sample[0]; k++)
+            log[sample[k].place] = sample[k].byte;
+        log[logs[i].place] = logs[i].byte;
+        fill_table();
+        memcpy(expected, table, sizeof table);
+        uint32_t whole = towercloak_replay(log, LENGTH, LITTLE, expected, TABLE, &whole_counts[0], &whole_counts[1],
+                                           &whole_counts[2], &whole_counts[3], &whole_place);
+        for (size_t size = 1; size <= LENGTH; size++) {
+            uint32_t number = feed(logs[i].name, log, size, counts, &place);
+            expect_answer(logs[i].name, "the answer", number, whole);
+            expect(logs[i].name, "the counts", memcmp(counts, whole_counts, sizeof counts) == 0);
+            expect(logs[i].name, "the place", place == whole_place);
+            expect(logs[i].name, "the table", memcmp(table, expected, sizeof table) == 0);
+        }
+    }
+}
+
 static void lend_too_little(void)
 {
     uint64_t counts[4] = {GUARD, GUARD, GUARD, GUARD}, place = GUARD;
@@ -132,6 +186,9 @@ static void lend_too_little(void)
     expect_answer("one number short", "the start's answer", towercloak_stream_start(state, STATE - 1, LITTLE), 14);
     expect("one number short", "the state", memcmp(state, before, sizeof state) == 0);
     expect_answer("null", "the start's answer", towercloak_stream_start(NULL, 0, BIG), 14);
+    expect_answer("null", "the feed's answer",
+                  towercloak_stream_feed(NULL, 0, NULL, 0, NULL, 0, &counts[0], &counts[1], &counts[2], &counts[3], &place),
+                  14);
     expect_answer("null", "the end's answer",
                   towercloak_stream_end(NULL, 0, NULL, 0, &counts[0], &counts[1], &counts[2], &counts[3], &place), 14);
     expect("null", "the numbers", counts[0] == 0 && counts[1] == 0 && counts[2] == 0 && counts[3] == 0 && place == 0);
@@ -139,11 +196,12 @@ static void lend_too_little(void)
 
 int main(void)
 {
-    static const uint32_t answers[] = {0, 1, 4, 10, 14, 22};
+    static const uint32_t answers[] = {0, 1, 2, 3, 4, 6, 7, 10, 14, 19, 22};
     for (size_t i = 0; i < sizeof tests / sizeof tests[0]; i++) {
         run(&tests[i], LITTLE);
         run(&tests[i], BIG);
     }
+    feed_all();
     lend_too_little();
     return conclude("stream", answers, sizeof answers / sizeof answers[0]);
 }

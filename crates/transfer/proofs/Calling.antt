@@ -1,9 +1,10 @@
 -- What a call from C does, test by test. Assumes nothing.
 use Prim.Native.Nat.{ℕ, _<_, _≤_}
 use mathlib.Core.Path.{_≡_, refl, sym, ap, _∙_, subst}
-use mathlib.Core.Bool.{true, false}
+use mathlib.Core.Bool.{Bool, true, false}
 use mathlib.Core.List.{List}
-use borrow.Author.Tests.{lt-ltb, le-ltb}
+use native.Mathlib.Omega.{arith}
+use borrow.Author.Tests.{lt-ltb, le-ltb, eq-eqb, ne-eqb, ltb-false}
 use lib.Dec.{ltb}
 use lib.ListN.{length}
 use Rattle.fdr.specs.declared.form.Form.{Form}
@@ -12,20 +13,30 @@ use Rattle.replay.specs.Stream.{fresh}
 use Rattle.replay.specs.State.{Saying, told, sayingOf, viewed, stateSound}
 use Rattle.replay.specs.declared.stream.Stream.{Stream}
 use Rattle.replay.specs.declared.stream.Fed.{Fed}
-use Rattle.transfer.specs.Numbers.{among, namedBy, stateLength, streamOf, stands, Kept}
+use Rattle.transfer.specs.Numbers.{among, namedBy, stateLength, streamOf, stands, faultOf, Kept}
 use Rattle.transfer.specs.declared.naming.Named.the-variants.{Unknown}
 use Rattle.transfer.specs.Interface.{moreNumber, Tells, Same, CallBy, Begun, StartBy}
 use Rattle.transfer.proofs.Repacking.{kept-same}
 
-module _ (does : Stream → List ℕ → Fed → List ℕ → Type 0) (s t : List ℕ) (n : ℕ) (counts : List ℕ) (place : ℕ) (s' t' : List ℕ) where
-  pub call-short : length s < stateLength → Same 14 s t n counts place s' t' → CallBy does s t n counts place s' t'
-  call-short h x = rw (lt-ltb (length s) stateLength h, CallBy) x
+-- Numbers with no fault stand for a state.
+pub faultless : (s : List ℕ) → faultOf s ≡ 0 → (stateLength ≤ length s) × (stands s ≡ true)
+unfolding faultOf
+faultless s = go (ltb (length s) stateLength) refl (stands s) refl
+  where
+    go : (a : Bool) → ltb (length s) stateLength ≡ a → (b : Bool) → stands s ≡ b → _≡_ {A = ℕ} (elim a [ true ↦ 14 | false ↦ elim b [ false ↦ 22 | true ↦ 0 ] ]) 0 → (stateLength ≤ length s) × (stands s ≡ true)
+    go false p true q e = (ltb-false (length s) stateLength p, q)
+    go true p b q e = absurd (omega arith)
+    go false p false q e = absurd (omega arith)
 
-  pub call-none : stateLength ≤ length s → stands s ≡ false → Same 22 s t n counts place s' t' → CallBy does s t n counts place s' t'
-  call-none h e x = rw (le-ltb (length s) stateLength h, e, CallBy) x
+module _ (does : Stream → List ℕ → Fed → List ℕ → Type 0) (s t : List ℕ) (n : ℕ) (counts : List ℕ) (place : ℕ) (s' t' : List ℕ) (why : ℕ) (told-why : why ≡ faultOf s) where
+  pub call-fault : (why ≡ 0 → ⊥) → Same why s t n counts place s' t' → CallBy does s t n counts place s' t'
+  call-fault ne x = rw (ne-eqb (faultOf s) 0 (λ e. ne (told-why ∙ e)), CallBy) (subst (λ (w : ℕ). Same w s t n counts place s' t') told-why x)
 
-  pub call-done : (x : Stream) (r : Fed) → stateLength ≤ length s → stands s ≡ true → x ≡ streamOf s → does x t r t' → Tells (sayingOf (r .reply)) n counts place → Kept (r .stream) s s' → CallBy does s t n counts place s' t'
-  call-done x r h e i called tells k = rw (le-ltb (length s) stateLength h, e, CallBy) (record { fed = r; called = subst (λ (y : Stream). does y t r t') i called; tells = tells; state = k; same = kept-same k h e })
+  pub call-done : why ≡ 0 → (x : Stream) (r : Fed) → x ≡ streamOf s → does x t r t' → Tells (sayingOf (r .reply)) n counts place → Kept (r .stream) s s' → CallBy does s t n counts place s' t'
+  call-done none x r i called tells k =
+      let e = sym told-why ∙ none in
+      let f = faultless s e in
+      rw (eq-eqb (faultOf s) 0 e, CallBy) (record { fed = r; called = subst (λ (y : Stream). does y t r t') i called; tells = tells; state = k; same = kept-same k (f .0) (f .1) })
 
 -- Numbers that stand for a state stand for it.
 pub kept-own : {x : Stream} {s s' : List ℕ} → Kept x s s' → Kept (streamOf s') s s'

@@ -3,15 +3,15 @@ use Prim.Native.Nat.{ℕ}
 use mathlib.Core.Path.{_≡_}
 use mathlib.Core.Bool.{true, false}
 use mathlib.Core.List.{List, [], _∷_}
-use lib.Dec.{ltb}
+use lib.Dec.{eqb, ltb}
 use lib.ListN.{length}
 use Rattle.fdr.specs.declared.form.Form.{Form}
 use Rattle.replay.specs.Replay.{Verdict, report, refusal, countsOf}
 use Rattle.replay.specs.Stream.{fresh}
-use Rattle.replay.specs.State.{Saying, more, told, sayingOf, viewed, stateSound}
+use Rattle.replay.specs.State.{Saying, more, told, sayingOf, viewed, stateSound, FeedDoes}
 use Rattle.replay.specs.declared.stream.Stream.{Stream}
 use Rattle.replay.specs.declared.stream.Fed.{Fed}
-use Rattle.transfer.specs.Numbers.{stateLength, streamOf, stands, Kept}
+use Rattle.transfer.specs.Numbers.{stateLength, streamOf, faultOf, Kept}
 
 -- "an answer of its own stands for more". It is no refusal's number.
 abbrev pub moreNumber : ℕ
@@ -53,15 +53,16 @@ pub record Done (does : Fed → Type 0) (s : List ℕ) (n : ℕ) (counts : List 
   pub state : Kept (fed .stream) s s'
   pub same : fed .stream ≡ streamOf s → s' ≡ s
 
--- "A state shorter than its length is 14 before all else, numbers that stand for no state are 22"
+-- Numbers that hold no state are refused before all else.
 abbrev pub CallBy : (Stream → List ℕ → Fed → List ℕ → Type 0) → List ℕ → List ℕ → ℕ → List ℕ → ℕ → List ℕ → List ℕ → Type 0
-CallBy does s t n counts place s' t' = elim (ltb (length s) stateLength) [
-  | true ↦ Same 14 s t n counts place s' t'
-  | false ↦ elim (stands s) [
-    | false ↦ Same 22 s t n counts place s' t'
-    | true ↦ Done (λ r. does (streamOf s) t r t') s n counts place s'
-  ]
+CallBy does s t n counts place s' t' = elim (eqb (faultOf s) 0) [
+  | false ↦ Same (faultOf s) s t n counts place s' t'
+  | true ↦ Done (λ r. does (streamOf s) t r t') s n counts place s'
 ]
+
+-- A call with these bytes.
+abbrev pub FeedBy : List ℕ → Stream → List ℕ → Fed → List ℕ → Type 0
+FeedBy bytes x t r u = FeedDoes x bytes t r u
 
 -- In front of the first byte of a log.
 pub record Begun (f : Form) (s s' : List ℕ) : Type 0 where

@@ -4,7 +4,7 @@ use mathlib.Core.Path.{_≡_}
 use mathlib.Core.Bool.{Bool, true, false, _&&_, _||_}
 use mathlib.Core.List.{List, [], _∷_, _++_}
 use lib.Dec.{eqb, ltb}
-use lib.ListN.{getD, take, drop}
+use lib.ListN.{length, getD, take, drop}
 use Rattle.refusal.specs.Refusal.{numberOf}
 use Rattle.refusal.specs.declared.Refusal.{Refusal}
 use Rattle.refusal.specs.declared.Refusal.the-variants.{LogLength, Version, LogType, BufferSize, PastEnd, UnknownAction, Grammar, Thread, Clock, NoOpenCall, Depth, FunctionCount, Ticks, ShortTable, NoRoom, OutOfRange, NoUnit, NoMeasuredCall, UnknownKind, Offset, Unsound, TextLength, NotJson, Nesting, RepeatedName, WrongKind, IdOutside, RepeatedId, ListCount, Missing, CountSum, TransitionTable, NoTransition, UnmatchedBits, PastWanted, BitsLeft}
@@ -136,6 +136,10 @@ stands s =
     && (isAnswer (getD s 13 0) (getD s 15 0) (getD s 16 0) (getD s 17 0)
     && (allBelow 32 (drop 274 s) 256
     && allBelow 5376 (drop 306 s) 65536)))))
+
+-- "A state shorter than its length is 14 before all else, numbers that stand for no state are 22": else 0.
+unfoldable pub faultOf : List ℕ → ℕ
+faultOf s = elim (ltb (length s) stateLength) [ true ↦ 14 | false ↦ elim (stands s) [ false ↦ 22 | true ↦ 0 ] ]
 
 -- What a call leaves in the numbers: they stand for a state, and those behind them are as they were.
 pub record Kept (x : Stream) (before after : List ℕ) : Type 0 where

@@ -3,7 +3,7 @@ ghost use mathlib.Core.Path.{_≡_};
 ghost use mathlib.Core.Bool.{true};
 ghost use Prim.Native.Nat.{_<_, _≤_};
 ghost use lib.ListN.{length};
-ghost use Rattle.transfer.specs.Numbers.{threadsNumber, answerIn, stateLength, scalars, streamWith, streamOf, stands, Kept};
+ghost use Rattle.transfer.specs.Numbers.{threadsNumber, answerIn, stateLength, scalars, streamWith, streamOf, stands, faultOf, Kept};
 use crate::parts::all_below;
 use crate::parts::read_u8;
 use crate::parts::read_u16;
@@ -27,7 +27,7 @@ use replay::stream::Stream;
 pub const LENGTH: usize = 5682;
 
 // Whether numbers stand for a state.
-pub fn stands(numbers: &[u64]) -> bool
+fn stands(numbers: &[u64]) -> bool
     requires { ⌜ stateLength ≤ length (now numbers) ⌝ }
     ensures { λ r. ⌜ r ≡ stands (now (numbers .entry)) ⌝ }
 {
@@ -52,6 +52,20 @@ pub fn stands(numbers: &[u64]) -> bool
         return false;
     }
     all_below(numbers, 306, 5376, 65536)
+}
+
+// What is wrong with numbers that are lent for a state: 14 or 22, or 0.
+pub fn fault(numbers: &[u64]) -> u32
+    ensures { λ r. ⌜ r ≡ faultOf (now (numbers .entry)) ⌝ }
+{
+    if numbers.len() < LENGTH {
+        return 14;
+    }
+    let standing = stands(numbers);
+    if !standing {
+        return 22;
+    }
+    0
 }
 
 fn answer_in(numbers: &[u64]) -> Answer
