@@ -94,19 +94,42 @@ static const char *read_open(int file, enum taken taken, struct log *log) {
     return wrong;
 }
 
-int read_log(const char *name, enum taken taken, struct log *log) {
+int open_log(const char *name, enum taken taken) {
     int standard = strcmp(name, "-") == 0;
-    if (standard && taken == REGULAR)
-        return failed(name, no_regular_file);
+    if (standard && taken == REGULAR) {
+        failed(name, no_regular_file);
+        return -1;
+    }
     /* A pipe must not hold it up where none is taken, and a link, as /dev/stdin, is another file's name. */
     int flags = taken == REGULAR ? O_NONBLOCK | O_NOFOLLOW : 0;
     int file = standard ? STDIN_FILENO : open(name, O_RDONLY | O_CLOEXEC | flags);
     if (file < 0)
-        return failed(name, taken == REGULAR && errno == ELOOP ? no_regular_file : strerror(errno));
-    const char *wrong = read_open(file, taken, log);
-    if (!standard)
+        failed(name, taken == REGULAR && errno == ELOOP ? no_regular_file : strerror(errno));
+    return file;
+}
+
+void close_log(const char *name, int file) {
+    if (strcmp(name, "-") != 0)
         close(file);
+}
+
+int is_short(int file) {
+    struct stat now;
+    return fstat(file, &now) == 0 && S_ISREG(now.st_mode) && now.st_size <= TOWERCLOAK_LONGEST;
+}
+
+int read_open_log(const char *name, int file, enum taken taken, struct log *log) {
+    const char *wrong = read_open(file, taken, log);
     return wrong == NULL ? DONE : failed(name, wrong);
+}
+
+int read_log(const char *name, enum taken taken, struct log *log) {
+    int file = open_log(name, taken);
+    if (file < 0)
+        return FAILED;
+    int status = read_open_log(name, file, taken, log);
+    close_log(name, file);
+    return status;
 }
 
 void hint_at_order(const char *name, const struct log *log, uint32_t order) {

@@ -18,6 +18,18 @@ enum taken { REGULAR, ANY };
 /* Makes this process leave no core file, which would hold what it has read. Gives whether it will leave none. */
 int leave_no_core(void);
 
+/* Opens this file, or takes standard input for -. Gives its number, or -1 and tells why. */
+int open_log(const char *name, enum taken taken);
+
+/* Closes it, unless it is standard input. */
+void close_log(const char *name, int file);
+
+/* Whether this is a regular file whose rest is no longer than the longest log. */
+int is_short(int file);
+
+/* Reads the log from an open file, as read_log does. */
+int read_open_log(const char *name, int file, enum taken taken, struct log *log);
+
 /* Reads the log that this file holds, or standard input for -: whole, or one byte more than the longest. Gives DONE, or
  * FAILED and tells why. */
 int read_log(const char *name, enum taken taken, struct log *log);

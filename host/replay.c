@@ -15,7 +15,11 @@ static const char help[] =
     "in each line what is the whole log's; of a log without functions it has one line, whose first six cells are empty.\n"
     "\n"
     "  --big-endian   the log is big-endian: the highest byte of each number comes first\n"
-    "  FILE           a log of up to 16,777,216 bytes, a pipe that holds one, or - for standard input\n"
+    "  FILE           a log of any length, a pipe that holds one, or - for standard input\n"
+    "\n"
+    "A regular file of up to 16,777,216 bytes is replayed whole. Standard input, a pipe and a longer file are replayed as\n"
+    "they come, in a fixed amount of memory, and the reading stops at the first refusal. Such a log has no upper limit; one\n"
+    "whose last buffer is cut short is refused by 4 at its end, unless something is refused before.\n"
     "\n"
     "Exit status: 0, 1 for a log that is refused, told as 'refused NUMBER at PLACE', 2 for a file that can't be read.\n";
 
@@ -70,7 +74,7 @@ static int run(const struct options *options, char **words, int count) {
     static void (*const print[])(const struct report *) = {[TEXT] = print_text, [CSV] = print_csv, [JSON] = print_json};
     static struct report report;
     (void)count;
-    int status = report_on(words[0], options->order, &report);
+    int status = report_as_it_comes(words[0], options->order, &report);
     if (status == DONE)
         print[options->format](&report);
     return status;

@@ -1,15 +1,17 @@
 #include "report.h"
 
 #include "log.h"
+#include "stream.h"
 #include "tell.h"
 
 #include <inttypes.h>
 #include <stdio.h>
+#include <string.h>
 
-int report_on(const char *name, uint32_t order, struct report *report) {
+static int report_whole(const char *name, int file, uint32_t order, struct report *report) {
     struct log log;
     uint64_t place;
-    int status = read_log(name, ANY, &log);
+    int status = read_open_log(name, file, ANY, &log);
     if (status != DONE)
         return status;
     towercloak_header(log.bytes, log.length, order, &report->frequency, &report->constant_tsc, &report->nonstop_tsc,
@@ -21,6 +23,25 @@ int report_on(const char *name, uint32_t order, struct report *report) {
         hint_at_order(name, &log, order);
     }
     drop_log(&log);
+    return status;
+}
+
+int report_on(const char *name, uint32_t order, struct report *report) {
+    int file = open_log(name, ANY);
+    if (file < 0)
+        return FAILED;
+    int status = report_whole(name, file, order, report);
+    close_log(name, file);
+    return status;
+}
+
+int report_as_it_comes(const char *name, uint32_t order, struct report *report) {
+    int file = open_log(name, ANY);
+    if (file < 0)
+        return FAILED;
+    int whole = strcmp(name, "-") != 0 && is_short(file);
+    int status = whole ? report_whole(name, file, order, report) : report_stream(name, file, order, report);
+    close_log(name, file);
     return status;
 }
 

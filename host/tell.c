@@ -25,6 +25,8 @@ static const char *const rules[] = {
     [17] = "a side's frequency or constant_tsc is 0: its ticks have no unit",
     [18] = "a side has no measured call: closed is not above backward",
     [19] = "a metadata record's kind is above 6",
+    [20] = "a read would take the log past 2^64 - 1 bytes",
+    [22] = "the state of a stream, or its rows, are none that a stream can have",
     [40] = "the transition table ends inside a row, a code is over 32 characters or not of 0 and 1, a list is empty, or a "
            "code begins another of its edge",
     [41] = "no row of the transition table is for an edge",

@@ -1,5 +1,5 @@
-/* Towercloak: replay and scrubbing of XRay flight data recorder logs, exact comparison of times measured in them, and walks
- * of the transition tables of DCFG traces.
+/* Towercloak: replay and scrubbing of XRay flight data recorder logs, whole or as they arrive, exact comparison of times
+ * measured in them, and walks of the transition tables of DCFG traces.
  *
  * Link with libtowercloak.a or libtowercloak.so (`make host` writes both to target/lib/).
  * Every function may be handed any numbers and any bytes at all; it keeps no state and touches no memory of
@@ -17,7 +17,7 @@ extern "C" {
 #endif
 
 /* The first number is also the shared library's, and goes up where programs that call it have to change. */
-#define TOWERCLOAK_VERSION "2.0.0"
+#define TOWERCLOAK_VERSION "2.1.0"
 
 /* The byte order of a log, which its bytes don't tell. A log of one order is refused by 2 as one of the other. */
 enum {
@@ -102,8 +102,9 @@ uint32_t towercloak_replay(const uint8_t *log, size_t length, uint32_t order, ui
 uint32_t towercloak_header(const uint8_t *log, size_t length, uint32_t order, uint64_t *frequency,
                            uint64_t *constant_tsc, uint64_t *nonstop_tsc, uint64_t *buffer_size);
 
-/* A stream is a log that is told part by part. Between two calls it is a state and a table of numbers, both the caller's:
- * each call is lent them as the one before left them. What the numbers of a state mean is for these functions alone. */
+/* A stream is a log that arrives in reads of any length, and is replayed as it comes, whatever its length under 2^64 bytes.
+ * Between two calls it is a state and a table of numbers, both the caller's: each call is lent them as the one before left
+ * them. What the numbers of a state mean is for these functions alone. */
 enum {
     TOWERCLOAK_STATE = 5682, /* the numbers of a state */
     TOWERCLOAK_MORE = 255    /* the answer of a stream that goes on */
@@ -121,7 +122,8 @@ uint32_t towercloak_stream_start(uint64_t *state, size_t numbers, uint32_t order
  *
  * 20               These bytes would be more than 2^64 - 1 with those before them.
  * 2 to 13, 19      The log is refused by the rule of this number, whatever follows.
- * TOWERCLOAK_MORE  Neither. The table has the rows so far, as towercloak_replay has them, and zeros behind them.
+ * TOWERCLOAK_MORE  Neither. The table has the rows so far, as towercloak_replay has them, and zeros behind them. A record is
+ *                  judged once its 8 or 16 bytes, or its buffer's last, are in.
  *
  * The four counts are 0, but where the stream has ended before with others. *place is where it was refused: as for
  * towercloak_replay, and for 20 the number of bytes before. It is 0 for 14, 22 and TOWERCLOAK_MORE. 2 to 13, 19 and 20 end

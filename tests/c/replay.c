@@ -2,6 +2,7 @@
  * byte of it changed, so that they are answered otherwise or refused; and the edges of what may be lent.
  */
 #include "checks.h"
+#include "sample.h"
 #include "towercloak.h"
 
 #include <string.h>
@@ -11,30 +12,12 @@ enum { BEHIND = 8, LONGEST = 224 };
 
 #define GUARD UINT64_C(0xA7A7A7A7A7A7A7A7)
 
-#define ZEROS_3 0, 0, 0
-#define ZEROS_5 ZEROS_3, 0, 0
-#define ZEROS_8 ZEROS_5, ZEROS_3
-#define ZEROS_13 ZEROS_8, ZEROS_5
-#define ZEROS_15 ZEROS_13, 0, 0
-
-/* A buffer of 96 bytes: NewBuffer of thread 7, WallTimeMarker, NewCPUId 0 at 1000, Entry and Exit of 5, EndOfBuffer and
- * a rest of 16. */
-#define BUFFER \
-    0x01, 7, 0, ZEROS_13, 0x09, ZEROS_15, 0x05, 0, 0, 0xE8, 3, 0, 0, 0, 0, 0, 0, ZEROS_5, 0x50, 0, 0, 0, 10, 0, 0, 0, \
-        0x52, 0, 0, 0, 30, 0, 0, 0, 0x03, ZEROS_15, ZEROS_15, 0
-
-/* The same, with the highest byte of each number first. */
-#define BIG_BUFFER \
-    0x80, 0, 7, ZEROS_13, 0x84, ZEROS_15, 0x82, 0, 0, 0, 0, 0, 0, 0, 0, 3, 0xE8, ZEROS_5, 0, 0, 0, 5, 0, 0, 0, 10, \
-        0x10, 0, 0, 5, 0, 0, 0, 30, 0x81, ZEROS_15, ZEROS_15, 0
-
 /* B, and its buffer once more: 1,000,000,000 Hz, both flags, a buffer_size of 96. */
 static const uint8_t twice[LONGEST] = {
-    1, 0, 1, 0, 3, 0, 0, 0, 0x00, 0xCA, 0x9A, 0x3B, 0, 0, 0, 0, 96, 0, 0, 0, 0, 0, 0, 0, ZEROS_8, BUFFER, BUFFER,
+    HEADER, BUFFER, BUFFER,
 };
 static const uint8_t big_twice[LONGEST] = {
-    0, 1, 0, 1, 0xC0, 0, 0, 0, 0, 0, 0, 0, 0x3B, 0x9A, 0xCA, 0x00, 0, 0, 0, 0, 0, 0, 0, 96, ZEROS_8, BIG_BUFFER,
-    BIG_BUFFER,
+    BIG_HEADER, BIG_BUFFER, BIG_BUFFER,
 };
 
 enum { LITTLE = TOWERCLOAK_LITTLE_ENDIAN, BIG = TOWERCLOAK_BIG_ENDIAN };
