@@ -14,6 +14,16 @@ mod c {
             frequency_b: u64, constant_tsc_b: u64, closed_b: u64, backward_b: u64, ticks_b: u64,
         ) -> u32;
         pub fn towercloak_scrub(log: *mut u8, len: usize, order: u32, place: *mut u64) -> u32;
+        pub fn towercloak_stream_start(state: *mut u64, state_len: usize, order: u32) -> u32;
+        pub fn towercloak_stream_feed(
+            state: *mut u64, state_len: usize, bytes: *const u8, len: usize,
+            table: *mut u64, table_len: usize,
+            rows: *mut u64, buffers: *mut u64, records: *mut u64, open: *mut u64, place: *mut u64,
+        ) -> u32;
+        pub fn towercloak_stream_end(
+            state: *mut u64, state_len: usize, table: *mut u64, table_len: usize,
+            rows: *mut u64, buffers: *mut u64, records: *mut u64, open: *mut u64, place: *mut u64,
+        ) -> u32;
         pub fn towercloak_walk(
             table: *const u64, table_len: usize, start: u64, bits: *const u8, bits_len: usize,
             wanted: u64, list: *mut u64, list_len: usize,
@@ -95,6 +105,44 @@ pub fn walk(table: &[u64], start: u64, bits: &[u8], wanted: u64, list: &mut [u64
             wanted, list.as_mut_ptr(), list.len(),
         )
     }
+}
+
+/// What a call of a stream tells: its answer, the four counts and the place.
+#[derive(Debug, Clone, Copy, PartialEq, Eq)]
+pub struct Told {
+    pub answer: u32,
+    pub counts: [u64; 4],
+    pub place: u64,
+}
+
+/// Starts a stream, as a C program does: 0, or 14.
+pub fn stream_start(state: &mut [u64], order: u32) -> u32 {
+    unsafe { c::towercloak_stream_start(state.as_mut_ptr(), state.len(), order) }
+}
+
+#[rustfmt::skip]
+pub fn stream_feed(state: &mut [u64], read: &[u8], table: &mut [u64]) -> Told {
+    let ([mut rows, mut buffers, mut records, mut open], mut place) = ([u64::MAX; 4], u64::MAX);
+    let answer = unsafe {
+        c::towercloak_stream_feed(
+            state.as_mut_ptr(), state.len(), read.as_ptr(), read.len(),
+            table.as_mut_ptr(), table.len(),
+            &mut rows, &mut buffers, &mut records, &mut open, &mut place,
+        )
+    };
+    Told { answer, counts: [rows, buffers, records, open], place }
+}
+
+#[rustfmt::skip]
+pub fn stream_end(state: &mut [u64], table: &mut [u64]) -> Told {
+    let ([mut rows, mut buffers, mut records, mut open], mut place) = ([u64::MAX; 4], u64::MAX);
+    let answer = unsafe {
+        c::towercloak_stream_end(
+            state.as_mut_ptr(), state.len(), table.as_mut_ptr(), table.len(),
+            &mut rows, &mut buffers, &mut records, &mut open, &mut place,
+        )
+    };
+    Told { answer, counts: [rows, buffers, records, open], place }
 }
 
 pub fn scrub_number(log: &mut [u8], order: u32, which: u64) -> u64 {

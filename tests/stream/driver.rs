@@ -1,4 +1,4 @@
-//! Makes the same calls of two streams, and compares what they answer and write.
+//! Makes the same calls of several streams, and compares what they answer and write.
 
 use crate::streaming::Streaming;
 use harness::counts::Table;
@@ -44,11 +44,14 @@ pub struct Driver {
     /// What the tables hold before the first call: no zeros.
     dirt: Vec<u64>,
     /// A table for each.
-    lent: [Vec<u64>; 2],
+    lent: [Vec<u64>; STREAMS],
     pub calls: Table,
 }
 
-type Streams<'a> = [Box<dyn Streaming + 'a>; 2];
+/// The last is the one that the others are to be like.
+const STREAMS: usize = 3;
+
+type Streams<'a> = [Box<dyn Streaming + 'a>; STREAMS];
 
 impl Driver {
     pub fn new() -> Driver {
@@ -56,13 +59,13 @@ impl Driver {
         let numbers = replaying::LONGEST;
         let dirt: Vec<u64> = (0..numbers).map(|_| random.number() | 1).collect();
         Driver {
-            lent: [dirt.clone(), dirt.clone()],
+            lent: std::array::from_fn(|_| dirt.clone()),
             dirt,
             calls: Table::counting("calls", "calls", CALLS),
         }
     }
 
-    /// Feeds both these reads and tells them the end, up to a refusal, and then
+    /// Feeds all these reads and tells them the end, up to a refusal, and then
     /// goes on for some calls.
     pub fn drive<'a>(
         &mut self,
@@ -145,29 +148,33 @@ impl Driver {
 
     /// One call of each, with a table of this length.
     fn same(&mut self, streams: &mut Streams, call: Call, length: usize) -> Result<Answer, String> {
-        let [one, other] = [0, 1].map(|index| {
+        let answers: [Answer; STREAMS] = std::array::from_fn(|index| {
             let table = &mut self.lent[index][..length];
             match call {
                 Call::Feed(read) => streams[index].feed(read, table),
                 _ => streams[index].end(table),
             }
         });
-        if one != other {
-            return Err(format!("{one:?}, expected {other:?}"));
+        let expected = answers[STREAMS - 1];
+        for (index, answer) in answers.iter().enumerate() {
+            if *answer != expected {
+                return Err(format!("{index}: {answer:?}, expected {expected:?}"));
+            }
+            if self.lent[index] != self.lent[STREAMS - 1] {
+                let text = self.difference(index);
+                return Err(format!("{index}: {answer:?}, but {text}"));
+            }
         }
-        if self.lent[0] != self.lent[1] {
-            return Err(format!("{one:?}, but {}", self.difference()));
-        }
-        Ok(one)
+        Ok(expected)
     }
 
     /// The first number that differs.
-    fn difference(&self) -> String {
-        let [one, other] = &self.lent;
-        let differs = |index: &usize| one[*index] != other[*index];
-        let index = (0..one.len()).find(differs).unwrap_or(0);
-        let (one, other) = (one[index], other[index]);
-        format!("number {index} of the table is {one}, expected {other}")
+    fn difference(&self, index: usize) -> String {
+        let (one, other) = (&self.lent[index], &self.lent[STREAMS - 1]);
+        let differs = |place: &usize| one[*place] != other[*place];
+        let place = (0..one.len()).find(differs).unwrap_or(0);
+        let (one, other) = (one[place], other[place]);
+        format!("number {place} of the table is {one}, expected {other}")
     }
 
     fn soil(&mut self) {

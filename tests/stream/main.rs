@@ -1,8 +1,9 @@
-//! Feeds logs in reads to two streams, and compares after every call the answers
-//! and the whole tables: generated logs and the samples, of both byte orders, cut
-//! in several ways, each sample cut in two at every byte, and longer logs than can
-//! be replayed whole, up to 2^64 bytes. One is the second program's stream, the
-//! other what its replay says of the whole log.
+//! Feeds logs in reads to the proved stream and to the second program's, and
+//! compares after every call the answers and the whole tables, with each other
+//! and with what the second program's replay says of the whole log: generated logs
+//! and the samples, of both byte orders, cut in several ways, each sample cut in
+//! two at every byte, and longer logs than can be replayed whole, up to 2^64 bytes.
+//! Then states that are damaged, number by number, and their rows.
 //!
 //! `stream [LOGS] [--seed SEED]`
 
@@ -10,20 +11,25 @@
 
 mod counts;
 mod cuts;
+mod damage;
 mod driver;
 mod far;
+mod judge;
+mod proved;
 mod streaming;
 mod times;
 mod whole;
 
 use counts::Counts;
 use cuts::Way;
+use damage::Damage;
 use driver::{Call, Driver};
 use far::Far;
 use harness::suite::{self, Words};
 use logs::calls;
 use logs::inputs::{self, Input, Kind};
 use logs::random::Random;
+use proved::Proved;
 use second::header::LONGEST;
 use second::order::Order;
 use second::stream::Stream;
@@ -36,10 +42,13 @@ use whole::Whole;
 const LOGS: u64 = 60_000;
 /// Of one log in this many another is made that is about 2^64 bytes long.
 const FAR: u64 = 4;
+/// Of one in this many the states are damaged.
+const DAMAGED: u64 = 40;
 
-/// The two that are compared, at the start of a log of this order.
-fn both<'a>(times: &'a Times, order: Order) -> [Box<dyn Streaming + 'a>; 2] {
+/// Those that are compared, at the start of a log of this order.
+fn all<'a>(times: &'a Times, order: Order) -> [Box<dyn Streaming + 'a>; 3] {
     [
+        Box::new(Proved::start(order)),
         Box::new(Stream::start(order)),
         Box::new(Whole::start(times)),
     ]
@@ -48,6 +57,7 @@ fn both<'a>(times: &'a Times, order: Order) -> [Box<dyn Streaming + 'a>; 2] {
 /// A run of comparisons.
 struct Run {
     driver: Driver,
+    damage: Damage,
     counts: Counts,
 }
 
@@ -59,7 +69,7 @@ impl Run {
         let times = Times::of(log, order);
         let way = Way::of(random, log.len());
         let reads = way.reads(random, log);
-        let streams = both(&times, order);
+        let streams = all(&times, order);
         let calls = reads.iter().map(|read| Call::Feed(read));
         let told = self.driver.drive(random, streams, calls);
         let told = told.map_err(|text| {
@@ -78,7 +88,7 @@ impl Run {
             return Ok(());
         };
         let calls = far.calls(random);
-        let streams = both(&far.times, far.order);
+        let streams = all(&far.times, far.order);
         let told = self.driver.drive(random, streams, calls);
         let told = told.map_err(|text| {
             let name = format!("{}, far", input.name());
@@ -94,7 +104,7 @@ impl Run {
         for cut in 0..=log.len() {
             let random = &mut Random::new(cut as u64);
             let calls = [&log[..cut], &log[cut..]].map(Call::Feed);
-            let told = self.driver.drive(random, both(&times, order), calls);
+            let told = self.driver.drive(random, all(&times, order), calls);
             let told = told.map_err(|text| {
                 let text = format!("cut at {cut}: {text}");
                 suite::difference(name, 0, log, &text)
@@ -109,6 +119,7 @@ fn run(words: Words) -> Result<String, String> {
     let (logs, seed) = words.cases(LOGS)?;
     let mut run = Run {
         driver: Driver::new(),
+        damage: Damage::new(),
         counts: Counts::new(),
     };
     for index in 0..logs {
@@ -119,6 +130,12 @@ fn run(words: Words) -> Result<String, String> {
         // Two neighbours are of both orders.
         if (index / 2).is_multiple_of(FAR) && !kind.is_huge() {
             run.far(&input)?;
+        }
+        if (index / 2).is_multiple_of(DAMAGED) && !kind.is_huge() {
+            let random = &mut Random::new(!input.seed);
+            let text =
+                |text: String| suite::difference(&input.name(), input.seed, &input.log(), &text);
+            run.damage.of(random, &input).map_err(text)?;
         }
     }
     for order in Order::ALL {
@@ -136,6 +153,7 @@ fn run(words: Words) -> Result<String, String> {
         }
     }
     suite::seen(&run.counts.tables(&run.driver.calls))?;
+    suite::seen(&[&run.damage.calls])?;
     let (logs, calls) = (run.counts.kinds.sum(), run.driver.calls.sum());
     Ok(format!("stream: {logs} logs, {calls} calls, no difference"))
 }
