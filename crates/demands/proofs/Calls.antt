@@ -8,14 +8,14 @@ use borrow.Author.Tests.{ltb-false, not-false, eq-eqb, eqb-true}
 use lib.ListN.{length}
 use Rattle.fdr.specs.Number.{byteAt}
 use Rattle.fdr.specs.Record.{eventSize, Typed}
-use Rattle.fdr.specs.Grammar.{isOpen, joins, agreedWith}
+use Rattle.walk.specs.Grammar.{isOpen, joins, agreedWith}
 use Rattle.record_writer.specs.Writing.{eventOf, fieldTests}
 use Rattle.fdr.specs.declared.form.Form.{Form}
 use Rattle.fdr.specs.declared.record.Record.{Record}
-use Rattle.fdr.specs.declared.grammar.Stage.the-variants.{Between}
-use Rattle.fdr.specs.declared.grammar.Threads.{Threads}
-use Rattle.fdr.specs.declared.grammar.Threads.the-variants.{Unseen, One}
-use Rattle.fdr.specs.declared.walk.Position.{Position}
+use Rattle.walk.specs.declared.grammar.Stage.the-variants.{Between}
+use Rattle.walk.specs.declared.grammar.Threads.{Threads}
+use Rattle.walk.specs.declared.grammar.Threads.the-variants.{Unseen, One}
+use Rattle.walk.specs.declared.Position.{Position}
 use Rattle.record_writer.proofs.ReadBack.{Here}
 use Rattle.log_writer.specs.declared.Writer.{Writer}
 use Rattle.log_writer.specs.Start.{Replying, continues, declined, put}

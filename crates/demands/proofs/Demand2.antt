@@ -8,13 +8,13 @@ use native.Mathlib.Omega.{arith}
 use lib.ListN.{length, take}
 use lib.Seq.{length-take-le, getD-take}
 use Rattle.fdr.specs.Header.{passed, openedWithin, longest}
-use Rattle.fdr.specs.Walk.{inFront}
-use Rattle.fdr.specs.Trace.{done, traceFrom, trace, ending, finished}
+use Rattle.walk.specs.Walk.{inFront}
+use Rattle.walk.specs.Trace.{done, traceFrom, trace, ending, finished}
 use Rattle.fdr.specs.declared.form.Form.{Form}
-use Rattle.fdr.specs.declared.grammar.Stage.the-variants.{Between}
-use Rattle.fdr.specs.declared.grammar.Threads.the-variants.{Unseen}
+use Rattle.walk.specs.declared.grammar.Stage.the-variants.{Between}
+use Rattle.walk.specs.declared.grammar.Threads.the-variants.{Unseen}
 use Rattle.record_writer.specs.Writing.{startTests}
-use Rattle.fdr.proofs.Tracing.{trace-passed}
+use Rattle.walk.proofs.Tracing.{trace-passed}
 use Rattle.record_writer.proofs.Rewriting.{roundTrips}
 use Rattle.log_writer.specs.declared.Writer.{Writer}
 use Rattle.log_writer.specs.Start.{put, fresh, started, outputStarted}

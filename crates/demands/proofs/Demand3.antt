@@ -9,15 +9,15 @@ use lib.Dec.{ltb}
 use lib.ListN.{length, getD}
 use Rattle.fdr.specs.Number.{byteAt}
 use Rattle.fdr.specs.declared.form.Form.{Form}
-use Rattle.fdr.specs.Trace.{Ending, wellFormed, trace}
-use Rattle.fdr.specs.Hidden.{hidden, Overwritten}
+use Rattle.walk.specs.Trace.{Ending, wellFormed, trace}
+use Rattle.walk.specs.Hidden.{hidden, Overwritten}
 use Rattle.refusal.proofs.Cases.{by-lt}
-use Rattle.fdr.proofs.Overwriting.{same-form, same-hidden}
+use Rattle.walk.proofs.Overwriting.{same-form, same-hidden}
 use Rattle.replay.specs.Row.{cells}
 use Rattle.replay.specs.Replay.{Verdict, refusal, answer}
 use Rattle.scrub.specs.Scrub.{zeroed, bytesAfter}
 use Rattle.scrub.proofs.Zeroing.{kept, length-zeroed, getD-zeroed, zeroed-same}
-use Rattle.fdr.proofs.Tracing.{all-pass}
+use Rattle.walk.proofs.Tracing.{all-pass}
 use Rattle.demands.specs.Demand3.{Alike, Demand3, OverwrittenBefore, SameRefusal, SameKind, Ran, RanAlike}
 use Rattle.demands.proofs.Shown.{same-answer, same-table}
 

@@ -8,12 +8,12 @@ use borrow.Author.Tests.{le-ltb}
 use lib.Dec.{ltb}
 use lib.ListN.{length, take, drop, replicate, length-append, length-replicate}
 use lib.Seq.{take-append-le}
-use Rattle.fdr.specs.Trace.{Trace, item, done, refusedAt, trace}
-use Rattle.fdr.specs.Hidden.{shown, shownIn, Overwritten}
+use Rattle.walk.specs.Trace.{Trace, item, done, refusedAt, trace}
+use Rattle.walk.specs.Hidden.{shown, shownIn, Overwritten}
 use Rattle.fdr.specs.declared.form.Form.{Form}
 use Rattle.fdr.specs.declared.record.Record.{Record}
 use Rattle.fdr.specs.declared.record.Record.the-variants.{Function, NewBuffer, EndOfBuffer, NewCpuId, TscWrap, WallTime, CustomEvent, CallArgument}
-use Rattle.fdr.proofs.Overwriting.{overwritten}
+use Rattle.walk.proofs.Overwriting.{overwritten}
 use Rattle.fdr.specs.Number.{zeros}
 use Rattle.replay.specs.Row.{Row, cells, flat, tableOf}
 use Rattle.replay.specs.Step.{State, Outcome, went, stopped, start, step}

@@ -8,23 +8,23 @@ use borrow.Author.Tests.{le-leb}
 use lib.ListN.{length, take, drop}
 use Rattle.fdr.specs.Number.{zeros}
 use Rattle.fdr.specs.Record.{sizeOf, eventSize, Typed, Bounded}
-use Rattle.fdr.specs.Grammar.{isOpen, onto, follows, joins, agreedWith, joinedBy}
+use Rattle.walk.specs.Grammar.{isOpen, onto, follows, joins, agreedWith, joinedBy}
 use Rattle.fdr.specs.Encoded.{recordBytes}
 use Rattle.record_writer.specs.Writing.{eventOf}
-use Rattle.fdr.specs.Walk.{onward, inFront, behind, threadTest, grammarTest, stepIn, next}
-use Rattle.fdr.specs.Trace.{item, done, traceFrom, ending, finished}
+use Rattle.walk.specs.Walk.{onward, inFront, behind, threadTest, grammarTest, stepIn, next}
+use Rattle.walk.specs.Trace.{item, done, traceFrom, ending, finished}
 use Rattle.fdr.specs.declared.record.Record.{Record}
 use Rattle.fdr.specs.declared.record.Record.the-variants.{NewBuffer, EndOfBuffer, NewCpuId, WallTime}
-use Rattle.fdr.specs.declared.grammar.Stage.{Stage}
-use Rattle.fdr.specs.declared.grammar.Stage.the-variants.{Between, WallTimeNext, CpuNext, Body}
-use Rattle.fdr.specs.declared.grammar.Threads.{Threads}
-use Rattle.fdr.specs.declared.grammar.Threads.the-variants.{One}
-use Rattle.fdr.specs.declared.walk.Position.{Position}
+use Rattle.walk.specs.declared.grammar.Stage.{Stage}
+use Rattle.walk.specs.declared.grammar.Stage.the-variants.{Between, WallTimeNext, CpuNext, Body}
+use Rattle.walk.specs.declared.grammar.Threads.{Threads}
+use Rattle.walk.specs.declared.grammar.Threads.the-variants.{One}
+use Rattle.walk.specs.declared.Position.{Position}
 use Rattle.fdr.proofs.Records.{sized-some}
 use Rattle.fdr.proofs.Decoding.{Placed, found-at}
 use Rattle.record_writer.proofs.Writing.{length-record}
-use Rattle.fdr.proofs.Walking.{step-found, log-over, in-front, in-buffer}
-use Rattle.fdr.proofs.Tracing.{trace-next}
+use Rattle.walk.proofs.Walking.{step-found, log-over, in-front, in-buffer}
+use Rattle.walk.proofs.Tracing.{trace-next}
 use Rattle.record_writer.proofs.ReadBack.{Here, decoded-back}
 use Rattle.log_writer.specs.declared.Writer.{Writer}
 use Rattle.log_writer.specs.Call.{opening, adding, closing, stageAfter, takes, addedBytes, callBytes, stateAfter}

@@ -7,12 +7,12 @@ use mathlib.Core.List.{List, [], _∷_}
 use lib.ListN.{length, take, drop}
 use Rattle.fdr.specs.Record.{sizeOf, eventSize}
 use Rattle.fdr.specs.Header.{passed, openedWithin, longest}
-use Rattle.fdr.specs.Trace.{Trace, item, done, refusedAt, trace, wellFormed}
+use Rattle.walk.specs.Trace.{Trace, item, done, refusedAt, trace, wellFormed}
 use Rattle.record_writer.specs.RoundTrip.{RoundTrips}
 use Rattle.fdr.specs.declared.form.Form.{Form}
 use Rattle.fdr.specs.declared.record.Record.{Record}
 use Rattle.fdr.specs.declared.header.Header.{Header}
-use Rattle.fdr.specs.declared.grammar.Stage.the-variants.{Between}
+use Rattle.walk.specs.declared.grammar.Stage.the-variants.{Between}
 use Rattle.log_writer.specs.declared.Writer.{Writer}
 use Rattle.log_writer.specs.Start.{continues, started, outputStarted}
 use Rattle.log_writer.specs.Call.{Call}

@@ -10,8 +10,8 @@ use lib.ListN.{length, take}
 use Rattle.refusal.specs.Sets.{isIn, atRecord}
 use Rattle.fdr.specs.Number.{byteAt}
 use Rattle.fdr.specs.declared.form.Form.{Form}
-use Rattle.fdr.specs.Trace.{Ending, allPass, wellFormed}
-use Rattle.fdr.specs.Hidden.{hidden, Overwritten}
+use Rattle.walk.specs.Trace.{Ending, allPass, wellFormed}
+use Rattle.walk.specs.Hidden.{hidden, Overwritten}
 use Rattle.replay.specs.Row.{cells}
 use Rattle.replay.specs.Replay.{Verdict, refusal, answer, tableAfter}
 use Rattle.scrub.specs.Scrub.{scrubbing, bytesAfter}

@@ -11,9 +11,9 @@ use Rattle.fdr.specs.Number.{number, bytesOf, zeros}
 use Rattle.fdr.specs.Decoded.{functionAt, metadataAt, decoded}
 use Rattle.fdr.specs.Header.{headerOf, headerTests, openedWithin}
 use Rattle.fdr.specs.Reading.{sizeTest, recordAt}
-use Rattle.fdr.specs.Walk.{stepIn, next}
-use Rattle.fdr.specs.Trace.{walked, traceFrom, traceWithin, allPass, ending}
-use Rattle.fdr.specs.Hidden.{hiddenIn, hidden}
+use Rattle.walk.specs.Walk.{stepIn, next}
+use Rattle.walk.specs.Trace.{walked, traceFrom, traceWithin, allPass, ending}
+use Rattle.walk.specs.Hidden.{hiddenIn, hidden}
 use Rattle.fdr.specs.Encoded.{functionBytes, metadataBytes, recordBytes, headerBytes}
 use Rattle.fdr.specs.Sample.{sampleHeader, logBytes, sampleB, sampleBigB, sampleWrongExit, sampleAbandoned, sampleBackward, sampleNested, sampleShortest, sampleTooShort, sampleClock, sampleArgument}
 use Rattle.replay.specs.Row.{rowOf, flat, tableOf}

@@ -1,8 +1,8 @@
 // What the crates promise together: the statements in specs/, and demand 3 of the functions themselves.
 ghost use mathlib.Core.Path.{_≡_};
 ghost use mathlib.Core.Bool.{true};
-ghost use Rattle.fdr.specs.Trace.{wellFormed};
-ghost use Rattle.fdr.specs.Hidden.{Overwritten};
+ghost use Rattle.walk.specs.Trace.{wellFormed};
+ghost use Rattle.walk.specs.Hidden.{Overwritten};
 ghost use Rattle.replay.specs.Replay.{verdictOf};
 ghost use Rattle.scrub.specs.Scrub.{scrubbingOf};
 ghost use Rattle.demands.specs.Demand3.{Ran, RanAlike};

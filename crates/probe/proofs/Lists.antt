@@ -7,10 +7,10 @@ use lib.ListN.{length, getD, List·getD-eq-default}
 use Rattle.fdr.specs.Header.{Opening, passed, failed}
 use Rattle.fdr.specs.Reading.{Reading, found, noRecord}
 use Rattle.record_writer.specs.Writing.{Writing, wrote, denied}
-use Rattle.fdr.specs.Walk.{Stepping, over, onward, halted}
+use Rattle.walk.specs.Walk.{Stepping, over, onward, halted}
 use Rattle.fdr.specs.declared.record.Record.{Record}
 use Rattle.fdr.specs.declared.record.Record.the-variants.{Function, NewBuffer, EndOfBuffer, NewCpuId, TscWrap, WallTime, CustomEvent, CallArgument}
-use Rattle.fdr.specs.Trace.{Ending, allPass, failsBy}
+use Rattle.walk.specs.Trace.{Ending, allPass, failsBy}
 use Rattle.log_writer.specs.Start.{Replying, continues, declined}
 use Rattle.probe.specs.Numbers.{scrubbingNumbers, outcomeNumbers, writingNumbers, recordOf, recordNumbers, openingNumbers, readingNumbers, orderNumber, steppingNumbers}
 

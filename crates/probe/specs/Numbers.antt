@@ -8,19 +8,19 @@ use Rattle.fdr.specs.Form.{formOf}
 use Rattle.fdr.specs.Header.{Opening, passed, failed}
 use Rattle.fdr.specs.Reading.{Reading, found, noRecord}
 use Rattle.record_writer.specs.Writing.{Writing, wrote, denied}
-use Rattle.fdr.specs.Walk.{Stepping, over, onward, halted}
-use Rattle.fdr.specs.Trace.{Ending, allPass, failsBy}
+use Rattle.walk.specs.Walk.{Stepping, over, onward, halted}
+use Rattle.walk.specs.Trace.{Ending, allPass, failsBy}
 use Rattle.log_writer.specs.Start.{Replying, continues, declined}
 use Rattle.log_writer.specs.declared.Writer.{Writer}
 use Rattle.fdr.specs.declared.form.Order.{Order}
 use Rattle.fdr.specs.declared.form.Order.the-variants.{Little, Big}
 use Rattle.fdr.specs.declared.record.Record.{Record}
 use Rattle.fdr.specs.declared.record.Record.the-variants.{Function, NewBuffer, EndOfBuffer, NewCpuId, TscWrap, WallTime, CustomEvent, CallArgument}
-use Rattle.fdr.specs.declared.grammar.Stage.{Stage}
-use Rattle.fdr.specs.declared.grammar.Stage.the-variants.{Between, WallTimeNext, CpuNext, Body, Arguments}
-use Rattle.fdr.specs.declared.grammar.Threads.{Threads}
-use Rattle.fdr.specs.declared.grammar.Threads.the-variants.{Unseen, One}
-use Rattle.fdr.specs.declared.walk.Position.{Position}
+use Rattle.walk.specs.declared.grammar.Stage.{Stage}
+use Rattle.walk.specs.declared.grammar.Stage.the-variants.{Between, WallTimeNext, CpuNext, Body, Arguments}
+use Rattle.walk.specs.declared.grammar.Threads.{Threads}
+use Rattle.walk.specs.declared.grammar.Threads.the-variants.{Unseen, One}
+use Rattle.walk.specs.declared.Position.{Position}
 
 -- A record's kind, 7 for a function record, and its fields.
 abbrev pub recordNumbers : Record → List ℕ

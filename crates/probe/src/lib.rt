@@ -9,7 +9,7 @@ ghost use lib.ListN.{length, getD};
 ghost use Rattle.fdr.specs.Form.{formOf};
 ghost use Rattle.fdr.specs.Header.{openedWithin, longest};
 ghost use Rattle.fdr.specs.Reading.{reading, eventAt};
-ghost use Rattle.fdr.specs.Walk.{next};
+ghost use Rattle.walk.specs.Walk.{next};
 ghost use Rattle.record_writer.specs.Writing.{written, outputAfter};
 ghost use Rattle.probe.specs.Numbers.{openingNumbers, readingNumbers, eventNumbers, steppingNumbers, positionOf, recordOf, writingNumbers, scrubbingNumbers, writerOf, outcomeNumbers};
 ghost use Rattle.scrub.specs.Scrub.{scrubbing, bytesAfter};
@@ -83,7 +83,7 @@ pub extern "C" fn probe_next(
     ensures { λ r. ⌜ r ≡ getD (steppingNumbers (next (now (log .entry)) (positionOf order place end size stage thread))) which 0 ⌝ }
 {
     let at = position_of(order, place, end, size, stage, thread);
-    let numbers = step_numbers(fdr::walk::next(log, at));
+    let numbers = step_numbers(walk::next(log, at));
     if which < 11 {
         numbers[which as usize]
     } else {

@@ -2,7 +2,7 @@
 ghost use mathlib.Core.Path.{_≡_};
 ghost use Rattle.fdr.specs.Header.{openingOf};
 ghost use Rattle.fdr.specs.Reading.{readingOf};
-ghost use Rattle.fdr.specs.Walk.{steppingOf};
+ghost use Rattle.walk.specs.Walk.{steppingOf};
 ghost use Rattle.record_writer.specs.Writing.{writingOf};
 ghost use Rattle.scrub.specs.Scrub.{scrubbingOf};
 ghost use Rattle.log_writer.specs.Start.{replyingOf};
@@ -10,15 +10,15 @@ ghost use lib.ListN.{getD};
 ghost use Rattle.probe.specs.Numbers.{scrubbingNumbers, writerOf, outcomeNumbers, writingNumbers, recordOf, recordNumbers, openingNumbers, readingNumbers, steppingNumbers, orderNumber, stageNumber, threadNumber, stageOf, threadsOf, positionOf};
 use fdr::form::Form;
 use fdr::form::Order;
-use fdr::grammar::Stage;
-use fdr::grammar::Threads;
 use fdr::header::Opened;
 use fdr::reader::Read;
 use fdr::record::Record;
-use fdr::walk::Position;
-use fdr::walk::Step;
 use log_writer::Writer;
 use record_writer::Written;
+use walk::Position;
+use walk::Step;
+use walk::grammar::Stage;
+use walk::grammar::Threads;
 
 fn record_numbers(record: Record) -> [u64; 4]
     ensures { λ r. ⌜ r ≡ recordNumbers «record» ⌝ }

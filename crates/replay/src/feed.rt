@@ -28,7 +28,7 @@ use crate::table::clear_behind;
 use fdr::form::Form;
 use fdr::header::Opened;
 use fdr::record::Record;
-use fdr::walk::Position;
+use walk::Position;
 
 // The bytes of the buffer that are to come.
 fn to_come(x: Stream) -> u64

@@ -4,18 +4,18 @@ ghost use mathlib.Core.Path.{_≡_};
 ghost use mathlib.Core.Bool.{false};
 ghost use Prim.Native.Nat.{_+_, _-_, _^_, _<_, _≤_, min};
 ghost use lib.ListN.{length};
-ghost use Rattle.fdr.specs.Walk.{inFront};
+ghost use Rattle.walk.specs.Walk.{inFront};
 ghost use Rattle.replay.specs.Feeding.{Standing, Sees};
 ghost use Rattle.replay.specs.Weighing.{wayOn, skimmed, wayBehind, roomOf, Filled, Weighable, Weighed, Holdable};
 use crate::stream::in_front;
-use fdr::ahead::Ahead;
-use fdr::ahead::call_ahead;
 use fdr::reader::family_size;
 use fdr::record::Record;
-use fdr::walk::Position;
-use fdr::walk::Step;
-use fdr::walk::judge;
 use refusal::Refusal;
+use walk::Position;
+use walk::Step;
+use walk::ahead::Ahead;
+use walk::ahead::call_ahead;
+use walk::judge;
 
 // Where a stream stands in a read: `at` has the place of the next byte, and the end of the buffer or, where that lies
 // beyond, of the read.

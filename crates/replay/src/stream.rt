@@ -7,7 +7,7 @@ ghost use lib.ListN.{length};
 ghost use Rattle.replay.specs.Row.{cells};
 ghost use Rattle.replay.specs.State.{viewed, goingSound, stateSound, tableSound, sayingOf, told, Advanced, Blank, Ended, Reportable, reportOf, FeedDoes, EndDoes};
 ghost use Rattle.replay.specs.Packing.{Tests};
-ghost use Rattle.fdr.specs.Walk.{inFront};
+ghost use Rattle.walk.specs.Walk.{inFront};
 ghost use Rattle.replay.specs.Stream.{fresh, stop, endTold};
 ghost use Rattle.replay.specs.Replay.{refusal, verdictOf};
 ghost use Rattle.replay.specs.Sound.{ofStream};
@@ -30,10 +30,10 @@ use crate::table::LARGEST;
 use crate::table::clear;
 use crate::table::clear_behind;
 use fdr::form::Form;
-use fdr::grammar::Stage;
-use fdr::grammar::Threads;
 use fdr::reader::family_size;
 use refusal::Refusal;
+use walk::grammar::Stage;
+use walk::grammar::Threads;
 
 // What a call says: a stream that goes on asks for more.
 pub enum Reply {

@@ -9,21 +9,21 @@ use denote.Enum.Declared.{tagOf}
 use Rattle.fdr.specs.Record.{visible}
 use Rattle.refusal.specs.Refusal.{numberOf}
 use Rattle.fdr.specs.Header.{passed, failed, openedWithin, longest}
-use Rattle.fdr.specs.Walk.{Stepping, over, onward, halted, steppingOf, next, startOf}
-use Rattle.fdr.specs.Trace.{traced, traceFrom, trace, Ending, allPass, failsBy, ending, finished}
-use Rattle.fdr.specs.Private.{endOf}
-use Rattle.fdr.specs.Hidden.{within, hiddenIn, hidden}
+use Rattle.walk.specs.Walk.{Stepping, over, onward, halted, steppingOf, next, startOf}
+use Rattle.walk.specs.Trace.{traced, traceFrom, trace, Ending, allPass, failsBy, ending, finished}
+use Rattle.walk.specs.Private.{endOf}
+use Rattle.walk.specs.Hidden.{within, hiddenIn, hidden}
 use Rattle.fdr.specs.declared.form.Form.{Form}
 use Rattle.fdr.specs.declared.record.Record.{Record}
 use Rattle.fdr.specs.declared.header.Header.{Header}
-use Rattle.fdr.specs.declared.walk.Position.{Position}
-use Rattle.fdr.specs.declared.walk.Step.{Step}
-use Rattle.fdr.specs.declared.walk.Step.the-variants.{Over, Found, Refused}
-use Rattle.fdr.proofs.walk.Step.{the-type as the-steps}
+use Rattle.walk.specs.declared.Position.{Position}
+use Rattle.walk.specs.declared.Step.{Step}
+use Rattle.walk.specs.declared.Step.the-variants.{Over, Found, Refused}
+use Rattle.walk.proofs.Step.{the-type as the-steps}
 use Rattle.refusal.proofs.Cases.{clash}
 use Rattle.fdr.proofs.Records.{visible-size}
-use Rattle.fdr.proofs.Tracing.{forward, trace-next, trace-passed, trace-failed}
-use Rattle.fdr.proofs.Agreement.{SameFrom, trace-agree}
+use Rattle.walk.proofs.Tracing.{forward, trace-next, trace-passed, trace-failed}
+use Rattle.walk.proofs.Agreement.{SameFrom, trace-agree}
 use Rattle.scrub.specs.Scrub.{scrubbing, zeroed, bytesAfter}
 use Rattle.scrub.proofs.Zeroing.{length-zeroed, zeroed-none, zeroed-or, zeroed-behind}
 

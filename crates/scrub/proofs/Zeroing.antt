@@ -8,8 +8,8 @@ use native.Mathlib.Nat.{zero-add, add-zero}
 use lib.ListN.{length, getD, set, length-set}
 use lib.Seq.{ext-getD, getD-set-same, getD-set-other}
 use Rattle.refusal.proofs.Cases.{by-eq, by-lt}
-use Rattle.fdr.proofs.Hiding.{before-range, in-range, behind-range}
-use Rattle.fdr.specs.Hidden.{within}
+use Rattle.walk.proofs.Hiding.{before-range, in-range, behind-range}
+use Rattle.walk.specs.Hidden.{within}
 use Rattle.scrub.specs.Scrub.{zeroedFrom, zeroed}
 
 -- A byte, or zero.

@@ -4,8 +4,8 @@ use mathlib.Core.Bool.{Bool, true, false}
 use mathlib.Core.List.{List, [], _∷_}
 use Rattle.refusal.specs.Refusal.{numberOf}
 use Rattle.fdr.specs.declared.form.Form.{Form}
-use Rattle.fdr.specs.Trace.{trace, Ending, allPass, failsBy, ending, wellFormed}
-use Rattle.fdr.specs.Hidden.{hidden}
+use Rattle.walk.specs.Trace.{trace, Ending, allPass, failsBy, ending, wellFormed}
+use Rattle.walk.specs.Hidden.{hidden}
 use Rattle.scrub.specs.declared.Scrubbed.{Scrubbed}
 use Rattle.scrub.specs.declared.Scrubbed.the-variants.{Clean, Refused}
 

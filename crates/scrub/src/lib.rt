@@ -1,17 +1,17 @@
 // The scrubber: zero in every hidden byte of a log, in place, or one refusal with its place.
 ghost use mathlib.Core.Path.{_≡_};
 ghost use Rattle.fdr.specs.Header.{passed, openedWithin, longest};
-ghost use Rattle.fdr.specs.Private.{endOf};
-ghost use Rattle.fdr.specs.Trace.{traceFrom, ending};
-ghost use Rattle.fdr.specs.Walk.{steppingOf};
+ghost use Rattle.walk.specs.Private.{endOf};
+ghost use Rattle.walk.specs.Trace.{traceFrom, ending};
+ghost use Rattle.walk.specs.Walk.{steppingOf};
 ghost use Rattle.scrub.specs.Scrub.{scrubbingOf, scrubbing, bytesAfter};
 use fdr::form::Form;
 use fdr::header::Header;
 use fdr::header::Opened;
 use fdr::record::Record;
-use fdr::walk::Position;
-use fdr::walk::Step;
 use refusal::Refusal;
+use walk::Position;
+use walk::Step;
 use wipe::wipe;
 use wipe::zero;
 
@@ -41,7 +41,7 @@ fn check(log: &[u8], first: Position) -> Scrubbed
 {
     let mut at = first;
     loop {
-        let step = fdr::walk::next(log, at);
+        let step = walk::next(log, at);
         let Step::Found { record: _, next } = step else {
             return ended(step);
         };
@@ -55,7 +55,7 @@ fn scrub_records(log: &mut [u8], form: Form, header: Header) -> Scrubbed
     ensures { λ r. ⌜ scrubbingOf r ≡ scrubbing form (now (log .entry)) ⌝ }
     ensures { λ r. ⌜ now (log .exit) ≡ bytesAfter form (now (log .entry)) ⌝ }
 {
-    let first = fdr::walk::start(form, header);
+    let first = walk::start(form, header);
     let checked = check(log, first);
     if let Scrubbed::Clean = checked {
         zero(log, Record::HEADER_VISIBLE, Record::HEADER_SIZE);

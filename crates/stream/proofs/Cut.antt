@@ -13,10 +13,10 @@ use Rattle.fdr.specs.Number.{number}
 use Rattle.fdr.specs.Decoded.{decoded}
 use Rattle.fdr.specs.Header.{passed, failed, headerOf, openedWithin, tooSmall, uneven}
 use Rattle.fdr.specs.Reading.{sizeTest}
-use Rattle.fdr.specs.Walk.{Stepping, over, onward, halted, inFront, judged}
+use Rattle.walk.specs.Walk.{Stepping, over, onward, halted, inFront, judged}
 use Rattle.fdr.specs.declared.form.Form.{Form}
 use Rattle.fdr.specs.declared.record.Record.{Record}
-use Rattle.fdr.specs.declared.walk.Position.{Position}
+use Rattle.walk.specs.declared.Position.{Position}
 use Rattle.fdr.proofs.Opening.{sizesRight, too-short, other-version, other-type, opens}
 use Rattle.replay.specs.Step.{Outcome, went, stopped, step}
 use Rattle.replay.specs.Replay.{report}

@@ -8,10 +8,10 @@ use borrow.Author.Tests.{lt-ltb, ltb-false}
 use lib.Dec.{ltb}
 use lib.ListN.{length, length-append}
 use Rattle.fdr.specs.Header.{Opening, passed, failed, openedWithin}
-use Rattle.fdr.specs.Walk.{Stepping, over, onward, halted, inFront, judged}
+use Rattle.walk.specs.Walk.{Stepping, over, onward, halted, inFront, judged}
 use Rattle.fdr.specs.declared.form.Form.{Form}
 use Rattle.fdr.specs.declared.record.Record.{Record}
-use Rattle.fdr.specs.declared.walk.Position.{Position}
+use Rattle.walk.specs.declared.Position.{Position}
 use Rattle.replay.specs.Step.{Outcome, went, stopped, step}
 use Rattle.replay.specs.Stream.{Midway, Stream, heading, going, ended, fresh, stop, bufferEnd, settled, stepped, taken, due, received, counting, holding, advanced, behindHeader, headed, take1, fed, offsetOf, readBy, reads, joinAll}
 use Rattle.replay.proofs.Taking.{fed-append, fed-ended}

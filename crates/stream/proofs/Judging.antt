@@ -13,8 +13,8 @@ use Rattle.fdr.specs.Number.{byteAt}
 use Rattle.fdr.specs.Bits.{familySize}
 use Rattle.fdr.specs.Decoded.{Decoded, decoded}
 use Rattle.fdr.specs.Reading.{Reading, sizeTest}
-use Rattle.fdr.specs.Walk.{recordTest, judged, next}
-use Rattle.fdr.specs.declared.walk.Position.{Position}
+use Rattle.walk.specs.Walk.{recordTest, judged, next}
+use Rattle.walk.specs.declared.Position.{Position}
 use Rattle.refusal.proofs.Cases.{by-lt}
 use Rattle.fdr.proofs.Own.{decoded-own, cut-own, family-some}
 use Rattle.replay.specs.Stream.{bufferEnd}

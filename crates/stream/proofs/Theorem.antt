@@ -11,11 +11,11 @@ use borrow.Author.Tests.{le-ltb}
 use Rattle.fdr.specs.Header.{Opening, passed, failed, headerOf, tooSmall, uneven, headerTests, openedWithin, longest}
 use Rattle.fdr.specs.Number.{number}
 use Rattle.refusal.specs.Tests.{test, firstOf}
-use Rattle.fdr.specs.Walk.{startOf}
-use Rattle.fdr.specs.Trace.{Trace, traceFrom, traceWithin, trace, refusedAt}
+use Rattle.walk.specs.Walk.{startOf}
+use Rattle.walk.specs.Trace.{Trace, traceFrom, traceWithin, trace, refusedAt}
 use Rattle.fdr.specs.declared.form.Form.{Form}
 use Rattle.fdr.specs.declared.header.Header.{Header}
-use Rattle.fdr.proofs.Tracing.{trace-passed, trace-failed}
+use Rattle.walk.proofs.Tracing.{trace-passed, trace-failed}
 use Rattle.replay.specs.Step.{start}
 use Rattle.replay.specs.Row.{Row, cells, tableOf}
 use Rattle.replay.specs.Replay.{Verdict, report, refusal, Result, meaning, answer, tableAfter, accepted, refused, replayed, recordsIn, buffersIn, told, rowsOf}

@@ -14,15 +14,15 @@ use Rattle.fdr.specs.Bits.{familySize}
 use Rattle.fdr.specs.Record.{sizeOf}
 use Rattle.fdr.specs.Decoded.{decoded}
 use Rattle.fdr.specs.Reading.{sizeTest}
-use Rattle.fdr.specs.Walk.{Stepping, over, onward, halted, inFront, recordTest, next}
-use Rattle.fdr.specs.Trace.{Trace, item, done, refusedAt, traced, traceFrom}
+use Rattle.walk.specs.Walk.{Stepping, over, onward, halted, inFront, recordTest, next}
+use Rattle.walk.specs.Trace.{Trace, item, done, refusedAt, traced, traceFrom}
 use Rattle.fdr.specs.declared.record.Record.{Record}
-use Rattle.fdr.specs.declared.walk.Position.{Position}
+use Rattle.walk.specs.declared.Position.{Position}
 use Rattle.refusal.proofs.Cases.{by-lt}
 use Rattle.fdr.proofs.Decoding.{no-byte}
 use Rattle.fdr.proofs.Records.{sized-some}
-use Rattle.fdr.proofs.Walking.{step-refused, log-over, in-buffer}
-use Rattle.fdr.proofs.Tracing.{Gone, gone, Forward, forward, over-end, trace-next}
+use Rattle.walk.proofs.Walking.{step-refused, log-over, in-buffer}
+use Rattle.walk.proofs.Tracing.{Gone, gone, Forward, forward, over-end, trace-next}
 use Rattle.fdr.proofs.Own.{known-size}
 use Rattle.replay.specs.Row.{Row}
 use Rattle.replay.specs.Step.{State, Outcome, went, stopped, step}

@@ -9,8 +9,8 @@ use Rattle.fdr.specs.Number.{number, bytesOf, zeros}
 use Rattle.fdr.specs.Decoded.{functionAt, metadataAt, decoded}
 use Rattle.fdr.specs.Header.{headerOf, headerTests, openedWithin}
 use Rattle.fdr.specs.Reading.{sizeTest, recordAt}
-use Rattle.fdr.specs.Walk.{stepIn, judged, next, startOf}
-use Rattle.fdr.specs.Trace.{walked, traceFrom, traceWithin}
+use Rattle.walk.specs.Walk.{stepIn, judged, next, startOf}
+use Rattle.walk.specs.Trace.{walked, traceFrom, traceWithin}
 use Rattle.fdr.specs.Encoded.{functionBytes, metadataBytes, recordBytes, headerBytes}
 use Rattle.fdr.specs.Sample.{sampleHeader, logBytes, sampleB, sampleBigB, sampleWrongExit, sampleShortest, sampleTooShort}
 use Rattle.fdr.specs.declared.record.Record.the-variants.{Function, CustomEvent, NewBuffer, WallTime}

@@ -2,7 +2,7 @@
 use Prim.Native.Nat.{ℕ}
 use Rattle.compare.specs.Compare.{Comparison, lower, equal, higher, incomparable}
 use Rattle.compare.specs.declared.Side.{Side}
-use Rattle.fdr.specs.Trace.{Ending, allPass, failsBy}
+use Rattle.walk.specs.Trace.{Ending, allPass, failsBy}
 
 -- "lower, equal or higher", or the refusal's number. No refusal has the number 0, 1 or 2 here: they are 17 and 18.
 abbrev pub orderNumber : Comparison → ℕ

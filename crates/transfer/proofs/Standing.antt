@@ -11,8 +11,8 @@ use lib.ListN.{getD, take, drop}
 use lib.Seq.{getD-drop}
 use Rattle.fdr.specs.Form.{formOf}
 use Rattle.fdr.specs.declared.form.Form.{Form}
-use Rattle.fdr.specs.declared.grammar.Stage.{Stage}
-use Rattle.fdr.specs.declared.grammar.Threads.{Threads}
+use Rattle.walk.specs.declared.grammar.Stage.{Stage}
+use Rattle.walk.specs.declared.grammar.Threads.{Threads}
 use Rattle.replay.specs.State.{allBelow}
 use Rattle.replay.specs.declared.Answer.{Answer}
 use Rattle.replay.specs.declared.stream.Stream.{Stream}

@@ -11,10 +11,10 @@ use Rattle.refusal.specs.declared.Refusal.the-variants.{LogLength, Version, Log
 use Rattle.fdr.specs.Form.{formOf}
 use Rattle.fdr.specs.declared.form.Order.{Order}
 use Rattle.fdr.specs.declared.form.Order.the-variants.{Little, Big}
-use Rattle.fdr.specs.declared.grammar.Stage.{Stage}
-use Rattle.fdr.specs.declared.grammar.Stage.the-variants.{Between, WallTimeNext, CpuNext, Body, Arguments}
-use Rattle.fdr.specs.declared.grammar.Threads.{Threads}
-use Rattle.fdr.specs.declared.grammar.Threads.the-variants.{Unseen, One}
+use Rattle.walk.specs.declared.grammar.Stage.{Stage}
+use Rattle.walk.specs.declared.grammar.Stage.the-variants.{Between, WallTimeNext, CpuNext, Body, Arguments}
+use Rattle.walk.specs.declared.grammar.Threads.{Threads}
+use Rattle.walk.specs.declared.grammar.Threads.the-variants.{Unseen, One}
 use Rattle.replay.specs.State.{allBelow}
 use Rattle.replay.specs.declared.Answer.{Answer}
 use Rattle.replay.specs.declared.Answer.the-variants.{Report, Refused}

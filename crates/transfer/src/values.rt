@@ -5,9 +5,9 @@ ghost use Rattle.transfer.specs.Numbers.{namedBy, orderNumber, stageNumb
 use crate::naming::Named;
 use crate::naming::name;
 use fdr::form::Order;
-use fdr::grammar::Stage;
-use fdr::grammar::Threads;
 use replay::Answer;
+use walk::grammar::Stage;
+use walk::grammar::Threads;
 
 pub fn order_number(order: Order) -> u64
     ensures { λ r. ⌜ r ≡ orderNumber order ⌝ }

@@ -1,6 +1,6 @@
 -- `probe::probe_next` meets its contract: the list is eleven numbers long. Assumes nothing.
 use Rattle.probe.specs.Numbers.{positionOf, steppingNumbers}
-use Rattle.fdr.specs.Walk.{next}
+use Rattle.walk.specs.Walk.{next}
 use Rattle.probe.proofs.Lists.{stepping-long, past}
 use lib.ListN.{getD}
 use mathlib.Core.List.{List}

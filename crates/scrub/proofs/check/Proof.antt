@@ -1,9 +1,9 @@
 -- `scrub::check` meets its contract: the rest of the trace ends as the whole does. Assumes nothing.
 use Rattle.scrub.proofs.Scrubbing.{ends, ends-later}
-use Rattle.fdr.proofs.Tracing.{forward}
+use Rattle.walk.proofs.Tracing.{forward}
 use Rattle.fdr.proofs.Records.{sized-some}
-use Rattle.fdr.specs.Trace.{traceFrom, ending}
-use Rattle.fdr.specs.Walk.{onward, steppingOf, next}
+use Rattle.walk.specs.Trace.{traceFrom, ending}
+use Rattle.walk.specs.Walk.{onward, steppingOf, next}
 use borrow.Author.Needs.{needs}
 use lib.ListN.{length}
 use Prim.Native.Nat.{_-_}

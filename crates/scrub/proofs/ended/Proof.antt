@@ -1,8 +1,8 @@
 -- `scrub::ended` meets its contract: the log is over, or the walk was refused. Assumes nothing.
 use Rattle.scrub.proofs.Scrubbing.{not-refused}
-use Rattle.fdr.specs.Private.{endOf}
-use Rattle.fdr.specs.declared.walk.Step.{Step}
-use Rattle.fdr.specs.Walk.{steppingOf}
+use Rattle.walk.specs.Private.{endOf}
+use Rattle.walk.specs.declared.Step.{Step}
+use Rattle.walk.specs.Walk.{steppingOf}
 use mathlib.Core.Path.{sym, ap}
 use borrow.Author.Needs.{needs}
 use Rattle.scrub.proofs.ended.Statement.{statement}

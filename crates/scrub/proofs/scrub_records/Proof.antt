@@ -2,9 +2,9 @@
 use Rattle.scrub.proofs.Scrubbing.{left-alone, records-tell, both-wiped}
 use Rattle.fdr.proofs.Opening.{passed-long}
 use Rattle.fdr.specs.Header.{longest}
-use Rattle.fdr.specs.Trace.{traceFrom, ending}
-use Rattle.fdr.specs.Hidden.{hiddenIn}
-use Rattle.fdr.specs.declared.walk.Position.{Position}
+use Rattle.walk.specs.Trace.{traceFrom, ending}
+use Rattle.walk.specs.Hidden.{hiddenIn}
+use Rattle.walk.specs.declared.Position.{Position}
 use Rattle.scrub.specs.Scrub.{scrubbingOf, scrubbing, zeroed as wiped}
 use native.Mathlib.Omega.{arith}
 use Prim.Native.Nat.{ℕ}

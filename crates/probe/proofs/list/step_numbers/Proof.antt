@@ -1,6 +1,6 @@
 -- `probe::list::step_numbers` meets its contract: case by case. Assumes nothing.
-use Rattle.fdr.specs.declared.walk.Step.{Step}
-use Rattle.fdr.specs.Walk.{steppingOf}
+use Rattle.walk.specs.declared.Step.{Step}
+use Rattle.walk.specs.Walk.{steppingOf}
 use Rattle.probe.proofs.Lists.{four-of}
 use Rattle.probe.specs.Numbers.{recordNumbers, steppingNumbers, stageNumber, threadNumber}
 use mathlib.Core.List.{List, [], _∷_, _++_}

@@ -5,7 +5,7 @@ use mathlib.Core.Bool.{false}
 use native.Mathlib.Nat.{mod-lt}
 use native.Mathlib.Omega.{arith}
 use borrow.Author.Needs.{needs}
-use Rattle.fdr.specs.Walk.{inFront}
+use Rattle.walk.specs.Walk.{inFront}
 use Rattle.replay.proofs.FirstWay.{inner-large, inner-come, front-come}
 use Rattle.replay.proofs.feed.to_come.Statement.{statement}
 use Rattle.replay.proofs.feed.to_come.Tie as tie

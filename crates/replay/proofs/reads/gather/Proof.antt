@@ -3,7 +3,7 @@ use borrow.Author.Needs.{needs}
 use mathlib.Core.Path.{_≡_, sym, _∙_, subst}
 use mathlib.Core.Bool.{true, false, true≢false}
 use native.Mathlib.Omega.{arith}
-use Rattle.fdr.specs.Walk.{inFront}
+use Rattle.walk.specs.Walk.{inFront}
 use Rattle.replay.specs.Feeding.{Standing, Inside}
 use Rattle.replay.specs.declared.reads.Way.{Way}
 use Rattle.replay.proofs.Skimming.{Skims, comes-from, wants-from, sees-from, skims, wants, out, too-small}

@@ -2,7 +2,7 @@
 use borrow.Author.Needs.{needs}
 use mathlib.Core.Path.{sym, ap, _∙_}
 use native.Mathlib.Omega.{arith}
-use Rattle.fdr.specs.Private.{callingOf}
+use Rattle.walk.specs.Private.{callingOf}
 use Rattle.replay.proofs.InPlace.{call-found}
 use Rattle.replay.proofs.reads.look.Statement.{statement}
 use Rattle.replay.proofs.reads.look.Tie as tie

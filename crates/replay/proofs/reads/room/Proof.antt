@@ -3,7 +3,7 @@ use mathlib.Core.Path.{_≡_, sym, _∙_}
 use mathlib.Core.Bool.{false}
 use native.Mathlib.Omega.{arith}
 use borrow.Author.Needs.{needs}
-use Rattle.fdr.specs.Walk.{inFront}
+use Rattle.walk.specs.Walk.{inFront}
 use Rattle.replay.specs.Weighing.{roomOf}
 use Rattle.replay.proofs.reads.room.Statement.{statement}
 use Rattle.replay.proofs.reads.room.Tie as tie

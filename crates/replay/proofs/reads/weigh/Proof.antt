@@ -2,7 +2,7 @@
 use mathlib.Core.Path.{sym, ap, _∙_}
 use denote.Ref.{now}
 use borrow.Author.Needs.{needs}
-use Rattle.fdr.specs.Walk.{steppingOf}
+use Rattle.walk.specs.Walk.{steppingOf}
 use Rattle.replay.proofs.Weighing.{never-over, refused-seen, past, found-seen}
 use Rattle.replay.proofs.reads.weigh.Statement.{statement}
 use Rattle.replay.proofs.reads.weigh.Tie as tie

@@ -1,6 +1,6 @@
 -- `replay::stream::in_front` meets its contract: by the stage. Assumes nothing.
 use mathlib.Core.Path.{sym}
-use Rattle.fdr.proofs.Records.{not-in-front}
+use Rattle.walk.proofs.Arms.{not-in-front}
 use borrow.Author.Needs.{needs}
 use Rattle.replay.proofs.stream.in_front.Statement.{statement}
 use Rattle.replay.proofs.stream.in_front.Tie as tie

@@ -1,11 +1,11 @@
 -- `scrub::wipe::wipe` meets its contract: the rest wiped is the whole wiped. Assumes nothing.
 use Rattle.scrub.specs.Scrub.{zeroed}
 use Rattle.scrub.proofs.Scrubbing.{nothing-left, wiped, visible-before}
-use Rattle.fdr.proofs.Tracing.{forward}
+use Rattle.walk.proofs.Tracing.{forward}
 use Rattle.fdr.proofs.Records.{sized-some}
-use Rattle.fdr.specs.Hidden.{hiddenIn}
-use Rattle.fdr.specs.Trace.{traceFrom}
-use Rattle.fdr.specs.Walk.{onward, steppingOf, next}
+use Rattle.walk.specs.Hidden.{hiddenIn}
+use Rattle.walk.specs.Trace.{traceFrom}
+use Rattle.walk.specs.Walk.{onward, steppingOf, next}
 use borrow.Author.Needs.{needs}
 use lib.ListN.{length}
 use Prim.Native.Nat.{_-_}

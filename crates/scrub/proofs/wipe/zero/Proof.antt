@@ -1,5 +1,5 @@
 -- `scrub::wipe::zero` meets its contract: the bytes passed are zero, and the others as they were. Assumes nothing.
-use Rattle.fdr.specs.Hidden.{within}
+use Rattle.walk.specs.Hidden.{within}
 use Rattle.scrub.specs.Scrub.{zeroed}
 use Rattle.scrub.proofs.Zeroing.{length-zeroed, zeroed-start, zeroed-more}
 use native.Mathlib.Omega.{arith}
