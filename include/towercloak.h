@@ -1,5 +1,5 @@
 /* Towercloak: replay and scrubbing of XRay flight data recorder logs, whole or as they arrive, exact comparison of times
- * measured in them, and walks of the transition tables of DCFG traces.
+ * measured in them, reading of DCFGs, and walks of the transition tables of DCFG traces.
  *
  * Link with libtowercloak.a or libtowercloak.so (`make host` writes both to target/lib/).
  * Every function may be handed any numbers and any bytes at all; it keeps no state and touches no memory of
@@ -150,6 +150,41 @@ uint32_t towercloak_stream_feed(uint64_t *state, size_t state_numbers, const uin
  */
 uint32_t towercloak_stream_end(uint64_t *state, size_t state_numbers, uint64_t *table, size_t numbers, uint64_t *rows,
                                uint64_t *buffers, uint64_t *records, uint64_t *open, uint64_t *place);
+
+enum {
+    TOWERCLOAK_EDGES = 20480, /* the numbers of a DCFG's edges: 4,096 rows of 5 */
+    TOWERCLOAK_THREADS = 512  /* the numbers of its threads: 256 rows of 2 */
+};
+
+/* Reads the DCFG (dynamic control-flow graph) in this text of length bytes: its edges and threads, in the order of the
+ * text, in the lent tables. The text is JSON, of at most 1,048,576 bytes. A process is told by its row among PROCESSES,
+ * from 0.
+ *
+ * 0   edges has rows of five numbers: the process, the id, the source, the target and the type. threads has rows of two: the
+ *     process and the thread's count. *edge_count and *thread_count are the numbers of rows, and *place is 0.
+ * 14  edges has fewer than TOWERCLOAK_EDGES numbers, or threads fewer than TOWERCLOAK_THREADS.
+ * 30  The text is longer than 1,048,576 bytes.
+ * 31  It is not JSON. The place is the first byte with which no JSON text can go on, or the text's length where it ends too
+ *     soon.
+ * 32  An array or object is opened more than 32 deep, in what is skipped or of the wrong kind: at its bracket.
+ * 33  A key is repeated in its object, or a column in its header: at the closing quote of the second.
+ * 34  A value is of the wrong kind: at its last byte.
+ * 35  An id is outside 1 to 2,147,483,647: at its last byte.
+ * 36  A table's own id is repeated in it: at the last byte of the second.
+ * 37  There is a 4,097th edge or a 257th thread: at the last byte of the edge's row, or of the thread's count.
+ * 38  A needed key or column is missing: at the text's length.
+ * 39  A process's counts don't sum to its INSTR_COUNT: at the text's length.
+ *
+ * 14 is tested first, then 30. Of 31 to 37 the one with the first place is given, at one place the one with the lower
+ * number; 38 and 39 only where there is none of these, 38 before 39. After a refusal both counts are 0, and *place is the
+ * place as an offset in the text, 0 for 14 and 30.
+ *
+ * edge_numbers and thread_numbers are how many numbers the tables have. After 14 both are untouched. Else their first
+ * TOWERCLOAK_EDGES and TOWERCLOAK_THREADS numbers are written, rows and then zeros, or zeros alone where the text is
+ * refused; those behind them are never touched. It takes at most 2 MiB of stack.
+ */
+uint32_t towercloak_dcfg(const uint8_t *text, size_t length, uint64_t *edges, size_t edge_numbers, uint64_t *threads,
+                         size_t thread_numbers, uint64_t *edge_count, uint64_t *thread_count, uint64_t *place);
 
 /* What towercloak_walk answers. */
 enum {
