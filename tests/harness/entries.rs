@@ -23,3 +23,4 @@ pub const TRANSITIONS: &[usize] = &[0, 14, 40, 41, 42, 43, 44];
 /// A stream that a read or the end ends: the first of these alone by refusals.
 pub const FEED: &[usize] = &[2, 3, 4, 5, 6, 7, 8, 9, 10, 11, 12, 13, 19];
 pub const END: &[usize] = &[0, 1, 4];
+pub const DCFG: &[usize] = &[0, 14, 30, 31, 32, 33, 34, 35, 36, 37, 38, 39];

@@ -24,6 +24,11 @@ mod c {
             state: *mut u64, state_len: usize, table: *mut u64, table_len: usize,
             rows: *mut u64, buffers: *mut u64, records: *mut u64, open: *mut u64, place: *mut u64,
         ) -> u32;
+        pub fn towercloak_dcfg(
+            text: *const u8, len: usize, edges: *mut u64, edges_len: usize,
+            threads: *mut u64, threads_len: usize,
+            edge_count: *mut u64, thread_count: *mut u64, place: *mut u64,
+        ) -> u32;
         pub fn towercloak_walk(
             table: *const u64, table_len: usize, start: u64, bits: *const u8, bits_len: usize,
             wanted: u64, list: *mut u64, list_len: usize,
@@ -93,6 +98,21 @@ pub fn scrub(log: &mut [u8], order: u32) -> (u32, u64) {
     // outlive the call.
     let number = unsafe { c::towercloak_scrub(log.as_mut_ptr(), log.len(), order, &mut place) };
     (number, place)
+}
+
+/// The reader of a DCFG, as a C program has it: the refusal's number or 0, both
+/// counts, and the place.
+#[rustfmt::skip]
+pub fn dcfg(text: &[u8], edges: &mut [u64], threads: &mut [u64]) -> (u32, [u64; 2], u64) {
+    let ([mut edge_count, mut thread_count], mut place) = ([u64::MAX; 2], u64::MAX);
+    let number = unsafe {
+        c::towercloak_dcfg(
+            text.as_ptr(), text.len(), edges.as_mut_ptr(), edges.len(),
+            threads.as_mut_ptr(), threads.len(),
+            &mut edge_count, &mut thread_count, &mut place,
+        )
+    };
+    (number, [edge_count, thread_count], place)
 }
 
 /// The walk of a transition table, as a C program has it: the refusal's number or

@@ -39,7 +39,7 @@ use times::Times;
 use whole::Whole;
 
 /// Logs where no number is given.
-const LOGS: u64 = 60_000;
+const LOGS: u64 = 24_000;
 /// Of one log in this many another is made that is about 2^64 bytes long.
 const FAR: u64 = 4;
 /// Of one in this many the states are damaged.
