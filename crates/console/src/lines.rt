@@ -10,8 +10,8 @@ use replay::row::WIDTH;
 // The last column of a row.
 const LAST: usize = WIDTH - 1;
 
-// A number of the report, and what stands behind it.
-fn print_number(number: u64, behind: &[u8]) {
+// A number of an answer, and what stands behind it.
+pub fn print_number(number: u64, behind: &[u8]) {
     io::print_decimal(STDOUT_FILENO, number);
     io::write_all(STDOUT_FILENO, behind);
 }

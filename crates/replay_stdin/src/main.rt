@@ -1,8 +1,6 @@
 // Replays one log of at most 65,536 bytes from standard input, and prints its report or its refusal.
-ghost use lib.ListN.{length};
-ghost use Rattle.console.specs.Input.{Within};
 use console::input::Input;
-use console::input::read_some;
+use console::input::read_all;
 use console::lines::print_answer;
 use fdr::form::Form;
 use fdr::form::Order;
@@ -11,24 +9,6 @@ use replay::row::CELLS;
 
 // The longest log.
 const LONGEST: usize = 65536;
-
-// Reads until the buffer is full or the input ends, by as many reads as it takes.
-fn read_all(buffer: &mut [u8]) -> Input
-    ensures { λ r. ⌜ Within r (length (now (buffer .exit))) ⌝ }
-{
-    let mut done: usize = 0;
-    while done < buffer.len() {
-        let read = read_some(&mut buffer[done..]);
-        let Input::Bytes(more) = read else {
-            return Input::Failed;
-        };
-        if more == 0 {
-            return Input::Bytes(done);
-        }
-        done += more;
-    }
-    Input::Bytes(done)
-}
 
 fn print_replay(log: &[u8]) {
     let mut table = [0u64; CELLS];

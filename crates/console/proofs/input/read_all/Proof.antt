@@ -1,14 +1,14 @@
--- `replay_stdin::read_all` meets its contract: each read stays within what is left of the buffer, and takes some of it. Assumes nothing.
+-- `console::input::read_all` meets its contract: each read stays within what is left of the buffer, and takes some of it. Assumes nothing.
 use Rattle.console.specs.declared.input.Input.{Input}
 use Rattle.console.specs.Input.{Within}
 use borrow.Rule.Slice.PartMut.{putMid, same-len-mid}
 use borrow.Author.Needs.{needs}
 use lib.ListN.{length, length-take, length-drop}
 use Prim.Native.Nat.{_-_, _≤_}
 use native.Mathlib.Omega.{arith}
 use mathlib.Core.Path.{_≡_, refl, _∙_, subst}
-use Rattle.replay_stdin.proofs.read_all.Statement.{statement}
-use Rattle.replay_stdin.proofs.read_all.Tie as tie
+use Rattle.console.proofs.input.read_all.Statement.{statement}
+use Rattle.console.proofs.input.read_all.Tie as tie
 
 abbrev Inv-loop : tie.InvT-loop
 Inv-loop buffer₀ done₀ buffer done = (done ≤ length buffer) × (length buffer ≡ length buffer₀)
