@@ -10,7 +10,7 @@
 #include <stdlib.h>
 #include <string.h>
 
-enum { HELP = 'h', OUT = 'o', FORMAT = 'f', WITHIN = 'w', BIG = 'b', BIG_LOG = 'l', BIG_REFERENCE = 'r' };
+enum { HELP = 'h', OUT = 'o', FORMAT = 'f', WITHIN = 'w', BIG = 'b', BIG_LOG = 'l', BIG_REFERENCE = 'r', GRAPH = 'g' };
 
 enum { MOST_PERCENT = 1000 };
 
@@ -33,9 +33,11 @@ int is_number(const char *text, uint64_t *number) {
     return errno == 0 && *end == '\0';
 }
 
-static int is_format(const char *text, enum format *format) {
-    static const char *const names[] = {[TEXT] = "text", [CSV] = "csv", [JSON] = "json"};
-    for (*format = TEXT; *format <= JSON; (*format)++)
+/* A graph is a format of commands that have one to draw. */
+static int is_format(const struct command *command, const char *text, enum format *format) {
+    static const char *const names[] = {[TEXT] = "text", [CSV] = "csv", [JSON] = "json", [DOT] = "dot"};
+    enum format last = strchr(command->options, GRAPH) != NULL ? DOT : JSON;
+    for (*format = TEXT; *format <= last; (*format)++)
         if (strcmp(text, names[*format]) == 0)
             return 1;
     return 0;
@@ -53,8 +55,8 @@ static const char *take(const struct command *command, int letter, struct option
         return "it has no such option, or the option lacks its word";
     if (letter == OUT)
         options->out = optarg;
-    else if (letter == FORMAT && !is_format(optarg, &options->format))
-        return "--format is text, csv or json";
+    else if (letter == FORMAT && !is_format(command, optarg, &options->format))
+        return strchr(command->options, GRAPH) != NULL ? "--format is text, csv, json or dot" : "--format is text, csv or json";
     else if (letter == WITHIN && (!is_number(optarg, &options->within) || options->within > MOST_PERCENT))
         return "--within is a whole number of percent, from 0 to 1000";
     if (letter == BIG || letter == BIG_LOG)

@@ -4,7 +4,7 @@
 
 #include <stdint.h>
 
-enum format { TEXT, CSV, JSON };
+enum format { TEXT, CSV, JSON, DOT };
 
 struct options {
     const char *out; /* -o, or null */
@@ -20,7 +20,7 @@ struct command {
     int (*run)(const struct options *options, char **words, int count);
 };
 
-extern const struct command replay_command, check_command, scrub_command, compare_command, walk_command;
+extern const struct command replay_command, check_command, scrub_command, compare_command, dcfg_command, walk_command;
 
 /* Runs the command with these words, of which the first is its name. Gives the exit status. */
 int run_command(const struct command *command, int count, char **words);

@@ -1,5 +1,5 @@
 /* Towercloak for the shell: what a log's calls did, whether a node is slower than the reference, copies of logs without
- * what may hold patient data, and walks of transition tables.
+ * what may hold patient data, control-flow graphs, and walks of transition tables.
  */
 #define _POSIX_C_SOURCE 200809L
 #include "command.h"
@@ -22,19 +22,20 @@ static const char help[] =
     "  scrub FILE...         writes copies of logs without what may hold patient data\n"
     "  replay FILE           what a log's calls did, function by function\n"
     "  compare NUMBER...     compares two measured times\n"
+    "  dcfg FILE             the edges and threads of a control-flow graph\n"
     "  walk FILE             the edges that a string of bits leads along, by a transition table\n"
     "\n"
     "'towercloak COMMAND --help' tells more of each; --version tells this program's version.\n"
     "\n"
     "Exit status:\n"
     "  0   done; check: each function of the reference is there, compared and not slower\n"
-    "  1   a log, a comparison or a walk was refused by a numbered rule\n"
+    "  1   a log, a comparison, a graph or a walk was refused by a numbered rule\n"
     "  2   wrong usage, or a file that can't be read or written\n"
     "  3   check: some function is slower\n"
     "  4   check: none is slower, but something could not be compared\n";
 
 static const struct command *const commands[] = {&check_command, &scrub_command, &replay_command, &compare_command,
-                                                 &walk_command};
+                                                 &dcfg_command,  &walk_command};
 
 /* A file that is opened later must not take the number of a standard one that is closed, and get what is told. */
 static int hold_standard_files(void) {
