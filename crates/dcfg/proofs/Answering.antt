@@ -1,13 +1,14 @@
--- From the sorted run, put back, to the answer. Assumes nothing.
+-- From the run as it was, or sorted and put back, to the answer. Assumes nothing.
 use Prim.Native.Nat.{ℕ, _+_, _-_, _≤_}
-use mathlib.Core.Path.{_≡_, sym, _∙_, subst}
+use mathlib.Core.Path.{_≡_, refl, sym, _∙_, subst}
 use mathlib.Core.Logic.{⊎-elim}
-use mathlib.Core.List.{List, _++_}
+use mathlib.Core.List.{List, [], _++_}
 use native.Mathlib.Omega.{arith}
 use native.Mathlib.Nat.{le-refl}
 use lib.ListN.{length, getD, take, drop}
-use Rattle.sorting.specs.Sorting.{Each, Swaps, Rising, Distinct, Sorted, Put, part}
-use Rattle.dcfg.specs.Private.{LeastRepeat, Answered, noPlace}
+use Rattle.sorting.specs.Sorting.{Each, Swaps, still, Rising, Distinct, Sorted, Put, part}
+use Rattle.dcfg.specs.Repeated.{repeatedIn}
+use Rattle.dcfg.specs.Private.{LeastRepeat, Answered, noPlace, placeOf}
 use Rattle.sorting.proofs.Ordering.{same-or-not, below-or-not}
 use Rattle.sorting.proofs.Swapping.{swaps-length, swaps-distinct, swaps-each}
 use Rattle.dcfg.proofs.LeastRepeats.{least-one, least-swapped, defined}
@@ -17,6 +18,15 @@ rising-distinct : (a : List ℕ) → Rising a → Distinct a
 rising-distinct a up i j il jl e = ⊎-elim (λ h. h)
     (λ ne. ⊎-elim (λ l. absurd (omega (arith, up i j l jl))) (λ l. absurd (omega (arith, up j i (omega arith) il))) (below-or-not i j))
     (same-or-not i j)
+
+module _ (at : ℕ → List ℕ) (a : List ℕ) (base top : ℕ) (bt : base ≤ top) (tl : top ≤ length a)
+    (up : Rising (part a base top)) (small : (k : ℕ) → getD a k 0 ≤ noPlace) (q : ℕ) (h : LeastRepeat at (part a base top) q) where
+  is-answer : q ≡ placeOf (repeatedIn at [] (part a base top))
+  is-answer = least-one at (part a base top) q _ h
+      (defined at (part a base top) up (λ k l. subst (λ (n : ℕ). n ≤ noPlace) (sym (getD-part a base top bt tl k (omega (arith, length-part a base top bt tl)))) (small (base + k))))
+
+  pub answered-still : Answered at base top a q a
+  answered-still = record { answer = is-answer; below = refl; above = refl; swaps = still }
 
 -- The list a with r put back from base to top.
 abbrev pub putBack : List ℕ → List ℕ → ℕ → ℕ → List ℕ
@@ -41,9 +51,7 @@ module _ (at : ℕ → List ℕ) (a r : List ℕ) (base top : ℕ) (bt : base �
   pub answered : ((k : ℕ) → getD a k 0 ≤ noPlace) → (q : ℕ) → LeastRepeat at (part (putBack a r base top) base top) q
       → Answered at base top a q (putBack a r base top)
   answered small q h = record {
-    answer = least-one at (part a base top) q _
-        (least-swapped at (part a base top) r (put .swaps) q (subst (λ (t : List ℕ). LeastRepeat at t q) is h))
-        (defined at (part a base top) up (λ k l. subst (λ (n : ℕ). n ≤ noPlace) (sym (getD-part a base top bt tl k (omega (arith, length-part a base top bt tl)))) (small (base + k))));
+    answer = is-answer at a base top bt tl up small q (least-swapped at (part a base top) r (put .swaps) q (subst (λ (t : List ℕ). LeastRepeat at t q) is h));
     below = below-back a r base top bt tl;
     above = above-back a r base top bt tl long;
     swaps = subst (λ (t : List ℕ). Swaps (top - base) (part a base top) t) (sym is) (subst (λ (n : ℕ). Swaps n (part a base top) r) (length-part a base top bt tl) (put .swaps));

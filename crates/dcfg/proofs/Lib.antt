@@ -35,6 +35,7 @@ pub mod Topping
 pub mod Finishing
 pub mod Orders
 pub mod LeastRepeats
+pub mod Ascending
 pub mod Comparing
 pub mod Parts
 pub mod Answering
