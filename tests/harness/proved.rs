@@ -51,6 +51,10 @@ mod c {
             table: *mut u64, table_len: usize, which: u64,
         ) -> u64;
 
+        pub fn probe_reads(
+            log: *const u8, len: usize, order: u32, size: u64, table: *mut u64, table_len: usize,
+        ) -> u64;
+
         pub fn probe_write(
             order: u32, kind: u64, a: u64, b: u64, c: u64, event: *const u8, event_len: usize,
             out: *mut u8, len: usize, which: u64,
@@ -175,6 +179,17 @@ pub fn replay(log: &[u8], order: u32, table: &mut [u64], which: u64) -> u64 {
         c::probe_replay(
             log.as_ptr(), log.len(), order,
             table.as_mut_ptr(), table.len(), which,
+        )
+    }
+}
+
+/// The log fed in reads of this length: the refusal's number, or 0.
+#[rustfmt::skip]
+pub fn reads(log: &[u8], order: u32, size: u64, table: &mut [u64]) -> u64 {
+    unsafe {
+        c::probe_reads(
+            log.as_ptr(), log.len(), order, size,
+            table.as_mut_ptr(), table.len(),
         )
     }
 }

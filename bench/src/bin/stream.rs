@@ -1,6 +1,6 @@
-//! Measures logs that arrive in reads: in memory by the functions for C against the
-//! whole replay, one byte at a time on logs of several lengths, and `replay_stream`
-//! on a long log from a pipe.
+//! Measures logs that arrive in reads: in memory by the proved stream, with its state
+//! by value and by the functions for C, against the whole replay, one byte at a time
+//! on logs of several lengths, and `replay_stream` on a long log from a pipe.
 
 use bench::log::{Folder, Kind, Log};
 use bench::maker::made;
@@ -38,7 +38,10 @@ fn check(log: &[u8], length: usize) -> Fallible<()> {
     let (mut whole, mut table) = (vec![0; TABLE], vec![1; TABLE]);
     assert_eq!(proved::replay(log, 0, &mut whole, 0), 0);
     in_reads(log, length, &mut table);
-    match whole == table {
+    let same = whole == table;
+    table.fill(1);
+    assert_eq!(proved::reads(log, 0, length as u64, &mut table), 0);
+    match same && whole == table {
         true => Ok(()),
         false => Err(format!("reads of {length}: another table")),
     }
@@ -55,8 +58,12 @@ fn programs<'a>(log: &'a [u8], mib: usize, lengths: &[usize]) -> Input<'a> {
     });
     let mut programs = vec![Program::new("whole", running(whole))];
     for length in lengths.iter().copied() {
-        let reads = Box::new(move |table: &mut [u64]| in_reads(log, length, table));
+        let reads = Box::new(move |table: &mut [u64]| {
+            proved::reads(log, 0, length as u64, table);
+        });
         programs.push(Program::new("reads", running(reads)));
+        let reads = Box::new(move |table: &mut [u64]| in_reads(log, length, table));
+        programs.push(Program::new("reads for C", running(reads)));
     }
     Input {
         bytes: log.len(),
@@ -68,15 +75,14 @@ fn programs<'a>(log: &'a [u8], mib: usize, lengths: &[usize]) -> Input<'a> {
 fn line(log: &[u8], name: &str, mib: usize, lengths: &[usize]) -> Fallible<()> {
     lengths.iter().try_for_each(|length| check(log, *length))?;
     let costs = medians(&mut [programs(log, mib, lengths)])?;
-    for (length, cost) in lengths.iter().zip(&costs[0][1..]) {
-        let (time, whole) = (cost.seconds, costs[0][0].seconds);
-        let each = time * 1e9 / log.len() as f64;
-        println!(
-            "| {name} | {} bytes | {:.2} |",
-            grouped(*length),
-            time / whole
-        );
-        eprintln!("{name}, reads of {length}: {each:.2} ns a byte");
+    let whole = costs[0][0].seconds;
+    for (length, cost) in lengths.iter().zip(costs[0][1..].chunks(2)) {
+        let [own, for_c] = [cost[0].seconds, cost[1].seconds];
+        let (length, own_ratio, c_ratio) = (grouped(*length), own / whole, for_c / whole);
+        println!("| {name} | {length} bytes | {own_ratio:.2} | {c_ratio:.2} |");
+        let each = |time: f64| time * 1e9 / log.len() as f64;
+        let [own, for_c] = [own, for_c].map(each);
+        eprintln!("{name}, reads of {length}: {own:.2} ns a byte, for C {for_c:.2}");
     }
     Ok(())
 }
@@ -127,7 +133,8 @@ fn piped(log: &Log) -> Fallible<()> {
 }
 
 fn measure() -> Fallible<()> {
-    println!("| log | reads of | time, against the whole replay |\n|---|---|---|");
+    println!("| log | reads of | time, against the whole replay | by the functions for C |");
+    println!("|---|---|---|---|");
     let folder = Folder::new()?;
     for kind in [Kind::Plain, Kind::ManyIds, Kind::Mixed] {
         let logs = Log::all(kind, &folder)?;
