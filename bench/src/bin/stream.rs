@@ -94,16 +94,19 @@ fn grouped(number: usize) -> String {
     }
 }
 
-/// A long log through a pipe: the rate of each part against the first's, and the
-/// peak of memory.
-fn piped(log: &Log) -> Fallible<()> {
+/// A long log through a pipe, the buffer of sample B over and over: the rate of each
+/// part against the first's, and the peak of memory.
+fn piped() -> Fallible<()> {
     let program = concat!(env!("CARGO_MANIFEST_DIR"), "/../target/bin/replay_stream");
     let mut child = Command::new(program)
         .stdin(Stdio::piped())
         .stdout(Stdio::null())
         .spawn()
         .map_err(|error| format!("{program}: {error}"))?;
-    let (header, buffers) = log.bytes.split_at(32);
+    let sample = concat!(env!("CARGO_MANIFEST_DIR"), "/../samples/b.fdr");
+    let sample = fs::read(sample).map_err(|error| format!("{sample}: {error}"))?;
+    let (header, buffer) = sample.split_at(32);
+    let buffers = buffer.repeat(MIB / buffer.len());
     let mut pipe = child.stdin.take().ok_or("no pipe")?;
     let mut put = |bytes: &[u8]| pipe.write_all(bytes).map_err(|error| error.to_string());
     put(header)?;
@@ -111,7 +114,7 @@ fn piped(log: &Log) -> Fallible<()> {
     for _ in 0..PARTS {
         let start = Instant::now();
         for _ in 0..PART / buffers.len() {
-            put(buffers)?;
+            put(&buffers)?;
         }
         seconds.push(start.elapsed().as_secs_f64());
     }
@@ -152,8 +155,7 @@ fn measure() -> Fallible<()> {
             }
         }
     }
-    let logs = Log::all(Kind::Plain, &folder)?;
-    piped(&logs[0])
+    piped()
 }
 
 fn main() -> ExitCode {
