@@ -127,7 +127,7 @@ uint32_t towercloak_stream_start(uint64_t *state, size_t numbers, uint32_t order
  *
  * The four counts are 0, but where the stream has ended before with others. *place is where it was refused: as for
  * towercloak_replay, and for 20 the number of bytes before. It is 0 for 14, 22 and TOWERCLOAK_MORE. 2 to 13, 19 and 20 end
- * the stream, and leave TOWERCLOAK_TABLE zeros in the table.
+ * the stream, and leave TOWERCLOAK_TABLE zeros in the table; given again, they leave it as it is.
  */
 uint32_t towercloak_stream_feed(uint64_t *state, size_t state_numbers, const uint8_t *bytes, size_t length,
                                 uint64_t *table, size_t numbers, uint64_t *rows, uint64_t *buffers, uint64_t *records,
@@ -142,10 +142,10 @@ uint32_t towercloak_stream_feed(uint64_t *state, size_t state_numbers, const uin
  * 22           The rows in the table aren't sound.
  * 1            The header isn't whole.
  * 4            The last buffer isn't.
- * 0            The table, and *rows, *buffers, *records and *open, are as towercloak_replay leaves them.
+ * 0            The table, and *rows, *buffers, *records and *open, are as towercloak_replay leaves them, for a log of any length.
  *
  * Where the answer isn't 0 the four counts are 0. *place is the place of an earlier refusal, and else 0. 14 and 22, and an
- * answer that is given again, change nothing that is lent; 1 and 4 leave TOWERCLOAK_TABLE zeros in the table. No number
+ * answer that is given again, change neither state nor table; 1 and 4 leave TOWERCLOAK_TABLE zeros in the table. No number
  * behind those of the state or of the table is ever touched.
  */
 uint32_t towercloak_stream_end(uint64_t *state, size_t state_numbers, uint64_t *table, size_t numbers, uint64_t *rows,
