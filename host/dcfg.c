@@ -80,7 +80,7 @@ static void print_json(const struct graph *graph) {
     puts("\n  ]\n}");
 }
 
-/* A node is named by its process and its id, and shown by its id: each process numbers its own. */
+/* A node is named by its process and its id, and shown by its id: each process numbers its own blocks. */
 static void print_dot(const struct graph *graph) {
     puts("digraph dcfg {");
     for (uint64_t i = 0; i < graph->edge_count; i++) {

@@ -67,7 +67,7 @@ dcfg s edges threads = elim (ltb edges 20480) [
   ]
 ]
 
--- The edges and threads that are listed: "a refusal zeroes the lent tables".
+-- The edges and threads that are listed: "Any but 14 zeroes the lent tables."
 abbrev pub edgesListed : Answer → List (List ℕ)
 edgesListed (listed edges threads) = edges
 edgesListed (refused number place) = []

@@ -29,7 +29,7 @@ found k i known = elim (ltb k 5 && eqb (getD known k 0) 0) [ true ↦ set known 
 unfoldable pub withColumn : List ℕ → ℕ → Header → ℕ → Header
 withColumn s table h p = record { places = h .places ++ (p ∷ []); known = found (numberIn 0 (columnsOf table) (nameAt s p)) (length (h .places) + 1) (h .known) }
 
--- "tables arrays of arrays, the first of strings"
+-- A table is an array of arrays, the first of which, its header, is one of strings (source 000, section 1.2.2).
 unfoldable pub headerCell : List ℕ → ℕ → Header → First → ℕ → Step Header
 headerCell s table h key p = elim (aString s p) [ go n u ↦ go n (withColumn s table h p) | halt m q u ↦ halt m q h ]
 

@@ -1,4 +1,4 @@
--- Numbers (RFC 8259, section 6). What is read is the longest beginning that is a number. Assumes nothing.
+-- Numbers (RFC 8259, section 6), read as far as one goes on: behind a point, an `e` or a sign a digit must follow. Assumes nothing.
 use Prim.Native.Nat.{ℕ, zero, suc, _+_}
 use mathlib.Core.Bool.{Bool, true, false}
 use mathlib.Core.List.{List}

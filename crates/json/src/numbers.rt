@@ -1,4 +1,4 @@
-// Numbers: the longest beginning that is one.
+// Numbers, read as far as one goes on.
 ghost use mathlib.Core.Path.{_≡_};
 ghost use Rattle.json.specs.Numbers as spec;
 use crate::Read;
