@@ -13,7 +13,7 @@ help:
 	@echo 'make install    puts these under DESTDIR and PREFIX, which is $(PREFIX), with the header, a man page and a'
 	@echo '                file for pkg-config'
 	@echo 'make run        proves and builds replay_stdin, the program in Rattle, and replays a sample'
-	@echo 'make test       runs every proof, every wrong program that must be refused, and every test'
+	@echo 'make test       runs every proof, wrong programs that must be refused, and every test'
 	@echo 'make fuzz       runs the suites with fresh seeds until it is stopped or one finds a difference'
 	@echo 'make bench      measures speed and memory beside llvm-xray, of the Debian package llvm'
 	@echo 'make clean      removes all that was built'

@@ -24,7 +24,7 @@ int open_log(const char *name, enum taken taken);
 /* Closes it, unless it is standard input. */
 void close_log(const char *name, int file);
 
-/* Whether this is a regular file whose rest is no longer than the longest log. */
+/* Whether this is a regular file that is no longer than the longest log. */
 int is_short(int file);
 
 /* Reads the log from an open file, as read_log does. */

@@ -6,7 +6,7 @@
 #include <wchar.h>
 #include <wctype.h>
 
-/* As docs/FORMAT.md has them. Those of the writers, 15 and 16, are none of this program's. */
+/* As docs/FORMAT.md has them, in short. Those of the writers, 15 and 16, are none of this program's. */
 static const char *const rules[] = {
     [1] = "the log is under 32 or over 16,777,216 bytes",
     [2] = "version is not 1",

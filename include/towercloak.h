@@ -26,7 +26,7 @@ enum {
 };
 
 enum {
-    TOWERCLOAK_LONGEST = 16777216, /* the most bytes of a log */
+    TOWERCLOAK_LONGEST = 16777216, /* the most bytes of a log that is whole */
     TOWERCLOAK_ROW = 6,            /* the numbers of a row of the table */
     TOWERCLOAK_TABLE = 6144        /* the numbers of the table: 1,024 rows */
 };

@@ -1,4 +1,4 @@
--- What the private functions promise: places and keys in their bounds, and what is lent. Assumes nothing.
+-- Places and keys in their bounds, and what is lent to private functions: no reader of the promises needs this file. Assumes nothing.
 use Prim.Native.Nat.{ℕ, _+_, _-_, _*_, _≤_, _<_}
 use mathlib.Core.Path.{_≡_}
 use mathlib.Core.Logic.{_⊎_}

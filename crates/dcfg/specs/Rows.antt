@@ -1,4 +1,4 @@
--- What the readers of rows and tables promise. Assumes nothing.
+-- What the readers of rows and tables promise each other: no reader of the promises needs this file. Assumes nothing.
 use Prim.Native.Nat.{ℕ, suc, _≤_, _<_}
 use mathlib.Core.Path.{_≡_}
 use mathlib.Core.Bool.{Bool, true, false}

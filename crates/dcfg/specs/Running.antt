@@ -1,4 +1,4 @@
--- What the readers of processes and of the top object promise. Assumes nothing.
+-- What the readers of processes and of the top object promise each other: no reader of the promises needs this file. Assumes nothing.
 use Prim.Native.Nat.{ℕ, _+_, _*_, _≤_, _<_}
 use mathlib.Core.Path.{_≡_}
 use mathlib.Core.Bool.{true, false, not, _||_}

@@ -156,7 +156,7 @@ pub(crate) fn none() -> Answer {
     }
 }
 
-// A state with nothing in it but these: in front of the first byte, or ended.
+// A state with nothing in it but these: in front of the first byte, or ended, or to be filled.
 pub(crate) fn blank(form: Form, offset: u64, over: bool, answer: Answer) -> Stream
     ensures { λ r. ⌜ Blank form offset over answer r ⌝ }
 {

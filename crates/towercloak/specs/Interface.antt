@@ -1,4 +1,4 @@
--- What the numbers of the C interface mean. Assumes nothing.
+-- What the numbers mean that the scrubber and the comparison give to C. Assumes nothing.
 use Prim.Native.Nat.{ℕ}
 use Rattle.compare.specs.Compare.{Comparison, lower, equal, higher, incomparable}
 use Rattle.compare.specs.declared.Side.{Side}

@@ -1,4 +1,4 @@
-// The C interface (include/towercloak.h): what a C program calls, on numbers and bytes.
+// The scrubber and the comparison for C (include/towercloak.h), on numbers and bytes.
 ghost use mathlib.Core.Path.{_≡_};
 ghost use Rattle.compare.specs.Compare.{compared};
 ghost use Rattle.fdr.specs.Form.{formOf};

@@ -1,4 +1,4 @@
--- What the numbers of a call mean (paper 02, CR 1): "For C: the bench's host receives the transfers." Assumes nothing.
+-- What the numbers of a call mean (paper 02, CR 1), for a host in C that receives the transfers. Assumes nothing.
 use Prim.Native.Nat.{ℕ}
 use mathlib.Core.Path.{_≡_}
 use mathlib.Core.Bool.{true, false}
@@ -13,7 +13,7 @@ use Rattle.replay.specs.declared.stream.Stream.{Stream}
 use Rattle.replay.specs.declared.stream.Fed.{Fed}
 use Rattle.transfer.specs.Numbers.{stateLength, streamOf, faultOf, Kept}
 
--- "an answer of its own stands for more". It is no refusal's number.
+-- An answer of its own stands for *more*: it is no refusal's number.
 abbrev pub moreNumber : ℕ
 moreNumber = 255
 

@@ -137,7 +137,7 @@ stands s =
     && (allBelow 32 (drop 274 s) 256
     && allBelow 5376 (drop 306 s) 65536)))))
 
--- "A state shorter than its length is 14 before all else, numbers that stand for no state are 22": else 0.
+-- A state shorter than its length is 14, before all else; numbers that stand for no state are 22; others have no fault, 0.
 unfoldable pub faultOf : List ℕ → ℕ
 faultOf s = elim (ltb (length s) stateLength) [ true ↦ 14 | false ↦ elim (stands s) [ false ↦ 22 | true ↦ 0 ] ]
 

@@ -1,4 +1,4 @@
--- The index of a table: the places of its rows, sorted by their keys. Assumes nothing.
+-- The index of a table, the places of its rows sorted by their keys: no reader of the promises needs this file. Assumes nothing.
 use Prim.Native.Nat.{ℕ, _-_, _/_, _<_, _≤_}
 use mathlib.Core.Path.{_≡_}
 use mathlib.Core.List.{List, _∷_, _++_}

@@ -1,4 +1,4 @@
--- The key of a row, by which rows are sorted: its edge, then its code. Assumes nothing.
+-- The key of a row, by which rows are sorted, its edge and then its code: no reader of the promises needs this file. Assumes nothing.
 use Prim.Native.Nat.{ℕ, _≤_}
 use mathlib.Core.List.{List, _∷_}
 use lib.ListN.{length, getD}
