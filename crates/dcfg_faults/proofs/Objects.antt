@@ -58,10 +58,10 @@ module _ {A B : Type 0} (R : A → B → Type 0) (s : List ℕ) where
           → Agrees R (unlessRepeated s false x) (behind (elim b [ true ↦ lastOf 33 (plainAt s q) | false ↦ [] ]) y)
       go-on true t =
           let here : repeatedIn (keyAt s false) [] (keys ++ (q ∷ [])) ≡ first q =
-              repeated-snoc (keyAt s false) keys q fresh ∙ ap (λ (b : Bool). elim b [ true ↦ first q | false ↦ none ]) t in
+          repeated-snoc (keyAt s false) keys q fresh ∙ ap (λ (b : Bool). elim b [ true ↦ first q | false ↦ none ]) t in
           let whole : unlessRepeated s false x ≡ atLast 33 (plainAt s q) (noted (e .step)) =
-              ap (unlessRepeated s false) (e .is)
-              ∙ unless-first s false (e .step) (keys ++ (q ∷ []) ++ e .more) q (repeated-more (keyAt s false) [] (keys ++ (q ∷ [])) (e .more) q here) in
+          ap (unlessRepeated s false) (e .is)
+          ∙ unless-first s false (e .step) (keys ++ (q ∷ []) ++ e .more) q (repeated-more (keyAt s false) [] (keys ++ (q ∷ [])) (e .more) q here) in
           subst (λ (z : Step A). Agrees R z (behind (lastOf 33 (plainAt s q)) y)) (sym whole) (last-before R 33 (plainAt s q) (noted (e .step)) y)
       go-on false t = none-before R (unlessRepeated s false x) y
           (h (repeated-snoc (keyAt s false) keys q fresh ∙ ap (λ (b : Bool). elim b [ true ↦ first q | false ↦ none ]) t))

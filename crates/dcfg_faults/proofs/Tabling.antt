@@ -78,9 +78,9 @@ column-alike s table h c p r fresh l = go-on (aString s p) (stringFound s p) (st
   where
     named : (n k : ℕ) → n ≡ k → Agrees HeaderAs (once s false places (go n (withColumn s table h p))) (columnFound s table c p (found [] (At k) tt))
     named n k e = subst (λ (g : Header). Agrees HeaderAs (once s false places (go n (withColumn s table h p))) (found (again s false (g .places) p) (At k) (record {
-        header = record { places = g .places ++ (p ∷ []); known = placed (numberIn 0 (columnsOf table) (nameAt s p)) (c .cells + 1) (g .known) };
-        cells = c .cells + 1;
-      }))) (r .alike)
+      header = record { places = g .places ++ (p ∷ []); known = placed (numberIn 0 (columnsOf table) (nameAt s p)) (c .cells + 1) (g .known) };
+      cells = c .cells + 1;
+    }))) (r .alike)
         (once-again HeaderAs s false places n k p (h .places) (withColumn s table h p) (record {
           header = record { places = h .places ++ (p ∷ []); known = placed (numberIn 0 (columnsOf table) (nameAt s p)) (c .cells + 1) (h .known) };
           cells = c .cells + 1;

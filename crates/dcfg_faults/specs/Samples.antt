@@ -33,35 +33,35 @@ unfinished = refl
 -- {"EDGE_TYPES":[["EDGE_TYPE_ID",5,"EDGE_TYPE_ID"],[0,1],"x"]}: a column that is no string, one that is repeated, an id of 0, a row that is
 -- no array, and what is missing.
 pub table : faults (
-  123 ∷ 34 ∷ 69 ∷ 68 ∷ 71 ∷ 69 ∷ 95 ∷ 84 ∷ 89 ∷ 80 ∷ 69 ∷ 83 ∷ 34 ∷ 58 ∷ 91 ∷ 91 ∷ 34 ∷ 69 ∷ 68 ∷ 71 ∷ 69 ∷ 95 ∷ 84 ∷ 89 ∷ 80 ∷ 69 ∷ 95 ∷ 73 ∷ 68 ∷ 34 ∷ 44 ∷ 53 ∷ 44 ∷ 34 ∷ 69 ∷ 68 ∷ 71 ∷ 69 ∷ 95 ∷ 84 ∷ 89 ∷ 80 ∷ 69 ∷ 95 ∷ 73 ∷ 68 ∷ 34 ∷ 93 ∷ 44 ∷ 91 ∷ 48 ∷ 44 ∷ 49 ∷ 93 ∷ 44 ∷ 34 ∷ 120 ∷ 34 ∷ 93 ∷ 125 ∷ []
-) 20480 512 ≡ fault 34 31 ∷ fault 33 46 ∷ fault 35 50 ∷ fault 34 57 ∷ fault 38 60 ∷ []
+    123 ∷ 34 ∷ 69 ∷ 68 ∷ 71 ∷ 69 ∷ 95 ∷ 84 ∷ 89 ∷ 80 ∷ 69 ∷ 83 ∷ 34 ∷ 58 ∷ 91 ∷ 91 ∷ 34 ∷ 69 ∷ 68 ∷ 71 ∷ 69 ∷ 95 ∷ 84 ∷ 89 ∷ 80 ∷ 69 ∷ 95 ∷ 73 ∷ 68 ∷ 34 ∷ 44 ∷ 53 ∷ 44 ∷ 34 ∷ 69 ∷ 68 ∷ 71 ∷ 69 ∷ 95 ∷ 84 ∷ 89 ∷ 80 ∷ 69 ∷ 95 ∷ 73 ∷ 68 ∷ 34 ∷ 93 ∷ 44 ∷ 91 ∷ 48 ∷ 44 ∷ 49 ∷ 93 ∷ 44 ∷ 34 ∷ 120 ∷ 34 ∷ 93 ∷ 125 ∷ []
+    ) 20480 512 ≡ fault 34 31 ∷ fault 33 46 ∷ fault 35 50 ∷ fault 34 57 ∷ fault 38 60 ∷ []
 unfolding faults topFound topKeyFound processFound processValueFound threadsFound threadMore edgeFound tableFound tableRowFound rowFound rowCellFound idAgain headerFound integersFound idFound outside integerFound stringFound wrongFound skippedFound passFound eachFound again columnAt lacks placed numberIn nextIn begun opens itemAt closes comma colonAt same any keyAt byteAt within either isSpace spaces space hexOf hexMore hex4At joined letterOf escapeAt charAt chars charsAt closed stringAt isDigit more digits expo frac magnitude numberAt letter plainAt small decimal hexadecimal prefixed integerOf idOf
 table = refl
 
 -- {"MAJOR_VERSION":1, five times: four keys are repeated, and four are missing.
 pub again-and-again : faults (
-  123 ∷ 34 ∷ 77 ∷ 65 ∷ 74 ∷ 79 ∷ 82 ∷ 95 ∷ 86 ∷ 69 ∷ 82 ∷ 83 ∷ 73 ∷ 79 ∷ 78 ∷ 34 ∷ 58 ∷ 49 ∷ 44 ∷ 34 ∷ 77 ∷ 65 ∷ 74 ∷ 79 ∷ 82 ∷ 95 ∷ 86 ∷ 69 ∷ 82 ∷ 83 ∷ 73 ∷ 79 ∷ 78 ∷ 34 ∷ 58 ∷ 49 ∷ 44 ∷ 34 ∷ 77 ∷ 65 ∷ 74 ∷ 79 ∷ 82 ∷ 95 ∷ 86 ∷ 69 ∷ 82 ∷ 83 ∷ 73 ∷ 79 ∷ 78 ∷ 34 ∷ 58 ∷ 49 ∷ 44 ∷ 34 ∷ 77 ∷ 65 ∷ 74 ∷ 79 ∷ 82 ∷ 95 ∷ 86 ∷ 69 ∷ 82 ∷ 83 ∷ 73 ∷ 79 ∷ 78 ∷ 34 ∷ 58 ∷ 49 ∷ 44 ∷ 34 ∷ 77 ∷ 65 ∷ 74 ∷ 79 ∷ 82 ∷ 95 ∷ 86 ∷ 69 ∷ 82 ∷ 83 ∷ 73 ∷ 79 ∷ 78 ∷ 34 ∷ 58 ∷ 49 ∷ 125 ∷ []
-) 20480 512 ≡ fault 33 33 ∷ fault 33 51 ∷ fault 33 69 ∷ fault 33 87 ∷ fault 38 91 ∷ []
+    123 ∷ 34 ∷ 77 ∷ 65 ∷ 74 ∷ 79 ∷ 82 ∷ 95 ∷ 86 ∷ 69 ∷ 82 ∷ 83 ∷ 73 ∷ 79 ∷ 78 ∷ 34 ∷ 58 ∷ 49 ∷ 44 ∷ 34 ∷ 77 ∷ 65 ∷ 74 ∷ 79 ∷ 82 ∷ 95 ∷ 86 ∷ 69 ∷ 82 ∷ 83 ∷ 73 ∷ 79 ∷ 78 ∷ 34 ∷ 58 ∷ 49 ∷ 44 ∷ 34 ∷ 77 ∷ 65 ∷ 74 ∷ 79 ∷ 82 ∷ 95 ∷ 86 ∷ 69 ∷ 82 ∷ 83 ∷ 73 ∷ 79 ∷ 78 ∷ 34 ∷ 58 ∷ 49 ∷ 44 ∷ 34 ∷ 77 ∷ 65 ∷ 74 ∷ 79 ∷ 82 ∷ 95 ∷ 86 ∷ 69 ∷ 82 ∷ 83 ∷ 73 ∷ 79 ∷ 78 ∷ 34 ∷ 58 ∷ 49 ∷ 44 ∷ 34 ∷ 77 ∷ 65 ∷ 74 ∷ 79 ∷ 82 ∷ 95 ∷ 86 ∷ 69 ∷ 82 ∷ 83 ∷ 73 ∷ 79 ∷ 78 ∷ 34 ∷ 58 ∷ 49 ∷ 125 ∷ []
+    ) 20480 512 ≡ fault 33 33 ∷ fault 33 51 ∷ fault 33 69 ∷ fault 33 87 ∷ fault 38 91 ∷ []
 unfolding faults topFound topKeyFound processFound processValueFound threadsFound threadMore edgeFound tableFound tableRowFound rowFound rowCellFound idAgain headerFound integersFound idFound outside integerFound stringFound wrongFound skippedFound passFound eachFound again columnAt lacks placed numberIn nextIn begun opens itemAt closes comma colonAt same any keyAt byteAt within either isSpace spaces space hexOf hexMore hex4At joined letterOf escapeAt charAt chars charsAt closed stringAt isDigit more digits expo frac magnitude numberAt letter plainAt small decimal hexadecimal prefixed integerOf idOf
 again-and-again = refl
 
 -- {"a": and 34 arrays, one inside the other: the 33rd and the 34th are opened deeper.
 pub deep : faults (
-  123 ∷ 34 ∷ 97 ∷ 34 ∷ 58 ∷ 91 ∷ 91 ∷ 91 ∷ 91 ∷ 91 ∷ 91 ∷ 91 ∷ 91 ∷ 91 ∷ 91 ∷ 91 ∷ 91 ∷ 91 ∷ 91 ∷ 91 ∷ 91 ∷ 91 ∷ 91 ∷ 91 ∷ 91 ∷ 91 ∷ 91 ∷ 91 ∷ 91 ∷ 91 ∷ 91 ∷ 91 ∷ 91 ∷ 91 ∷ 91 ∷ 91 ∷ 91 ∷ 91 ∷ 91 ∷ 93 ∷ 93 ∷ 93 ∷ 93 ∷ 93 ∷ 93 ∷ 93 ∷ 93 ∷ 93 ∷ 93 ∷ 93 ∷ 93 ∷ 93 ∷ 93 ∷ 93 ∷ 93 ∷ 93 ∷ 93 ∷ 93 ∷ 93 ∷ 93 ∷ 93 ∷ 93 ∷ 93 ∷ 93 ∷ 93 ∷ 93 ∷ 93 ∷ 93 ∷ 93 ∷ 93 ∷ 93 ∷ 93 ∷ 93 ∷ 125 ∷ []
-) 20480 512 ≡ fault 32 37 ∷ fault 32 38 ∷ fault 38 74 ∷ []
+    123 ∷ 34 ∷ 97 ∷ 34 ∷ 58 ∷ 91 ∷ 91 ∷ 91 ∷ 91 ∷ 91 ∷ 91 ∷ 91 ∷ 91 ∷ 91 ∷ 91 ∷ 91 ∷ 91 ∷ 91 ∷ 91 ∷ 91 ∷ 91 ∷ 91 ∷ 91 ∷ 91 ∷ 91 ∷ 91 ∷ 91 ∷ 91 ∷ 91 ∷ 91 ∷ 91 ∷ 91 ∷ 91 ∷ 91 ∷ 91 ∷ 91 ∷ 91 ∷ 91 ∷ 91 ∷ 93 ∷ 93 ∷ 93 ∷ 93 ∷ 93 ∷ 93 ∷ 93 ∷ 93 ∷ 93 ∷ 93 ∷ 93 ∷ 93 ∷ 93 ∷ 93 ∷ 93 ∷ 93 ∷ 93 ∷ 93 ∷ 93 ∷ 93 ∷ 93 ∷ 93 ∷ 93 ∷ 93 ∷ 93 ∷ 93 ∷ 93 ∷ 93 ∷ 93 ∷ 93 ∷ 93 ∷ 93 ∷ 93 ∷ 93 ∷ 125 ∷ []
+    ) 20480 512 ≡ fault 32 37 ∷ fault 32 38 ∷ fault 38 74 ∷ []
 unfolding faults topFound topKeyFound processFound processValueFound threadsFound threadMore edgeFound tableFound tableRowFound rowFound rowCellFound idAgain headerFound integersFound idFound outside integerFound stringFound wrongFound skippedFound passFound eachFound again columnAt lacks placed numberIn nextIn begun opens itemAt closes comma colonAt same any keyAt byteAt within either isSpace spaces space hexOf hexMore hex4At joined letterOf escapeAt charAt chars charsAt closed stringAt isDigit more digits expo frac magnitude numberAt letter plainAt small decimal hexadecimal prefixed integerOf idOf
 deep = refl
 
 -- {"EDGE_TYPES":[["EDGE_TYPE_ID"],[7],[7],["0x7"]]}: an own id that is there three times.
 pub own-ids : faults (
-  123 ∷ 34 ∷ 69 ∷ 68 ∷ 71 ∷ 69 ∷ 95 ∷ 84 ∷ 89 ∷ 80 ∷ 69 ∷ 83 ∷ 34 ∷ 58 ∷ 91 ∷ 91 ∷ 34 ∷ 69 ∷ 68 ∷ 71 ∷ 69 ∷ 95 ∷ 84 ∷ 89 ∷ 80 ∷ 69 ∷ 95 ∷ 73 ∷ 68 ∷ 34 ∷ 93 ∷ 44 ∷ 91 ∷ 55 ∷ 93 ∷ 44 ∷ 91 ∷ 55 ∷ 93 ∷ 44 ∷ 91 ∷ 34 ∷ 48 ∷ 120 ∷ 55 ∷ 34 ∷ 93 ∷ 93 ∷ 125 ∷ []
-) 20480 512 ≡ fault 36 37 ∷ fault 36 45 ∷ fault 38 49 ∷ []
+    123 ∷ 34 ∷ 69 ∷ 68 ∷ 71 ∷ 69 ∷ 95 ∷ 84 ∷ 89 ∷ 80 ∷ 69 ∷ 83 ∷ 34 ∷ 58 ∷ 91 ∷ 91 ∷ 34 ∷ 69 ∷ 68 ∷ 71 ∷ 69 ∷ 95 ∷ 84 ∷ 89 ∷ 80 ∷ 69 ∷ 95 ∷ 73 ∷ 68 ∷ 34 ∷ 93 ∷ 44 ∷ 91 ∷ 55 ∷ 93 ∷ 44 ∷ 91 ∷ 55 ∷ 93 ∷ 44 ∷ 91 ∷ 34 ∷ 48 ∷ 120 ∷ 55 ∷ 34 ∷ 93 ∷ 93 ∷ 125 ∷ []
+    ) 20480 512 ≡ fault 36 37 ∷ fault 36 45 ∷ fault 38 49 ∷ []
 unfolding faults topFound topKeyFound processFound processValueFound threadsFound threadMore edgeFound tableFound tableRowFound rowFound rowCellFound idAgain headerFound integersFound idFound outside integerFound stringFound wrongFound skippedFound passFound eachFound again columnAt lacks placed numberIn nextIn begun opens itemAt closes comma colonAt same any keyAt byteAt within either isSpace spaces space hexOf hexMore hex4At joined letterOf escapeAt charAt chars charsAt closed stringAt isDigit more digits expo frac magnitude numberAt letter plainAt small decimal hexadecimal prefixed integerOf idOf
 own-ids = refl
 
 -- {"PROCESSES":[["PROCESS_DATA"],[{"INSTR_COUNT":5,"INSTR_COUNT_PER_THREAD":[4]}]]}: a count that doesn't sum, beside what is missing.
 pub sum : faults (
-  123 ∷ 34 ∷ 80 ∷ 82 ∷ 79 ∷ 67 ∷ 69 ∷ 83 ∷ 83 ∷ 69 ∷ 83 ∷ 34 ∷ 58 ∷ 91 ∷ 91 ∷ 34 ∷ 80 ∷ 82 ∷ 79 ∷ 67 ∷ 69 ∷ 83 ∷ 83 ∷ 95 ∷ 68 ∷ 65 ∷ 84 ∷ 65 ∷ 34 ∷ 93 ∷ 44 ∷ 91 ∷ 123 ∷ 34 ∷ 73 ∷ 78 ∷ 83 ∷ 84 ∷ 82 ∷ 95 ∷ 67 ∷ 79 ∷ 85 ∷ 78 ∷ 84 ∷ 34 ∷ 58 ∷ 53 ∷ 44 ∷ 34 ∷ 73 ∷ 78 ∷ 83 ∷ 84 ∷ 82 ∷ 95 ∷ 67 ∷ 79 ∷ 85 ∷ 78 ∷ 84 ∷ 95 ∷ 80 ∷ 69 ∷ 82 ∷ 95 ∷ 84 ∷ 72 ∷ 82 ∷ 69 ∷ 65 ∷ 68 ∷ 34 ∷ 58 ∷ 91 ∷ 52 ∷ 93 ∷ 125 ∷ 93 ∷ 93 ∷ 125 ∷ []
-) 20480 512 ≡ fault 38 81 ∷ fault 39 81 ∷ []
+    123 ∷ 34 ∷ 80 ∷ 82 ∷ 79 ∷ 67 ∷ 69 ∷ 83 ∷ 83 ∷ 69 ∷ 83 ∷ 34 ∷ 58 ∷ 91 ∷ 91 ∷ 34 ∷ 80 ∷ 82 ∷ 79 ∷ 67 ∷ 69 ∷ 83 ∷ 83 ∷ 95 ∷ 68 ∷ 65 ∷ 84 ∷ 65 ∷ 34 ∷ 93 ∷ 44 ∷ 91 ∷ 123 ∷ 34 ∷ 73 ∷ 78 ∷ 83 ∷ 84 ∷ 82 ∷ 95 ∷ 67 ∷ 79 ∷ 85 ∷ 78 ∷ 84 ∷ 34 ∷ 58 ∷ 53 ∷ 44 ∷ 34 ∷ 73 ∷ 78 ∷ 83 ∷ 84 ∷ 82 ∷ 95 ∷ 67 ∷ 79 ∷ 85 ∷ 78 ∷ 84 ∷ 95 ∷ 80 ∷ 69 ∷ 82 ∷ 95 ∷ 84 ∷ 72 ∷ 82 ∷ 69 ∷ 65 ∷ 68 ∷ 34 ∷ 58 ∷ 91 ∷ 52 ∷ 93 ∷ 125 ∷ 93 ∷ 93 ∷ 125 ∷ []
+    ) 20480 512 ≡ fault 38 81 ∷ fault 39 81 ∷ []
 unfolding faults topFound topKeyFound processFound processValueFound threadsFound threadMore edgeFound tableFound tableRowFound rowFound rowCellFound idAgain headerFound integersFound idFound outside integerFound stringFound wrongFound skippedFound passFound eachFound again columnAt lacks placed numberIn nextIn begun opens itemAt closes comma colonAt same any keyAt byteAt within either isSpace spaces space hexOf hexMore hex4At joined letterOf escapeAt charAt chars charsAt closed stringAt isDigit more digits expo frac magnitude numberAt letter plainAt small decimal hexadecimal prefixed integerOf idOf
 sum = refl

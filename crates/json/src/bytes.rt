@@ -16,19 +16,19 @@ pub fn code(text: &[u8], at: usize) -> u32
     byte(text, at) as u32
 }
 
-pub(crate) fn within(low: u32, high: u32, b: u32) -> bool
+pub fn within(low: u32, high: u32, b: u32) -> bool
     ensures { λ r. ⌜ r ≡ spec.within low high b ⌝ }
 {
     low <= b && b <= high
 }
 
-pub(crate) fn either(x: u8, y: u8, b: u8) -> bool
+pub fn either(x: u8, y: u8, b: u8) -> bool
     ensures { λ r. ⌜ r ≡ spec.either x y b ⌝ }
 {
     b == x || b == y
 }
 
-pub(crate) fn is_space(b: u8) -> bool
+pub fn is_space(b: u8) -> bool
     ensures { λ r. ⌜ r ≡ spec.isSpace b ⌝ }
 {
     if either(32, 9, b) {
