@@ -78,8 +78,8 @@ fn line(log: &[u8], name: &str, mib: usize, lengths: &[usize]) -> Fallible<()> {
     let whole = costs[0][0].seconds;
     for (length, cost) in lengths.iter().zip(costs[0][1..].chunks(2)) {
         let [own, for_c] = [cost[0].seconds, cost[1].seconds];
-        let (length, own_ratio, c_ratio) = (grouped(*length), own / whole, for_c / whole);
-        println!("| {name} | {length} bytes | {own_ratio:.2} | {c_ratio:.2} |");
+        let (length, own_ratio, c_ratio) = (told(*length, log), own / whole, for_c / whole);
+        println!("| {name} | {length} | {own_ratio:.2} | {c_ratio:.2} |");
         let each = |time: f64| time * 1e9 / log.len() as f64;
         let [own, for_c] = [own, for_c].map(each);
         eprintln!("{name}, reads of {length}: {own:.2} ns a byte, for C {for_c:.2}");
@@ -87,10 +87,12 @@ fn line(log: &[u8], name: &str, mib: usize, lengths: &[usize]) -> Fallible<()> {
     Ok(())
 }
 
-fn grouped(number: usize) -> String {
-    match number {
-        1000.. => format!("{},{:03}", number / 1000, number % 1000),
-        _ => number.to_string(),
+/// A read's length in words.
+fn told(length: usize, log: &[u8]) -> String {
+    match length {
+        _ if length == log.len() => "the whole log".to_string(),
+        1000.. => format!("{},{:03} bytes", length / 1000, length % 1000),
+        _ => format!("{length} bytes"),
     }
 }
 
@@ -146,7 +148,7 @@ fn measure() -> Fallible<()> {
             &log.bytes,
             &format!("{}, {} MiB", kind.name(), log.mib),
             log.mib,
-            &[65536, 4096],
+            &[log.bytes.len(), 65536, 4096],
         )?;
         if let Kind::Plain = kind {
             for length in SHORT {
