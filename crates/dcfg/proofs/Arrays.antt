@@ -16,7 +16,7 @@ pub not-object : (s : List ℕ) (i : ℕ) → eqb (byteAt s i) 91 ≡ true → e
 not-object s i e = ne-eqb (byteAt s i) 123 (λ q. omega (arith, eqb-true (byteAt s i) 91 e))
 
 module _ {s keys₀ : List ℕ} {top o : ℕ} (w : Opening s o keys₀) {keys : List ℕ} {from n : ℕ} (h : Held s keys₀ keys top from n) where
-  pub held-member : (o < length s) × (from ≤ length s) × (length s ≤ 1048576) × (3 * n ≤ from) × (349526 ≤ length keys)
+  pub held-member : (o < length s) × (from ≤ length s) × (length s ≤ 1048576) × (3 * n ≤ from) × (length s < 3 * length keys)
   held-member = (w .inside, h .within, w .small, h .room, omega (arith, h .long, w .big))
 
   module _ {keys′ : List ℕ} (same : keys′ ≡ keys) where

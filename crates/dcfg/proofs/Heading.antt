@@ -120,7 +120,7 @@ module _ {s : List ℕ} (table : ℕ) {at : ℕ} (e : eqb (byteAt s at) 91 ≡ t
   }
 
   module _ {keys known : List ℕ} {from n : ℕ} (l : HeaderLoop s table at keys₀ top keys known from n) where
-    pub head-member : (at < length s) × (from ≤ length s) × (length s ≤ 1048576) × (3 * n ≤ from) × (349526 ≤ length keys)
+    pub head-member : (at < length s) × (from ≤ length s) × (length s ≤ 1048576) × (3 * n ≤ from) × (length s < 3 * length keys)
     head-member = (inside, l .held .within, room .small, l .held .room, omega (arith, l .held .long, room .big))
 
     -- How it ends.
@@ -136,7 +136,7 @@ module _ {s : List ℕ} (table : ℕ) {at : ℕ} (e : eqb (byteAt s at) 91 ≡ t
     )
 
     module _ {en : Entry} {keys′ : List ℕ} (x : en ≡ entryOf (nextIn s at from) n) (y : keys′ ≡ keptOf (nextIn s at from) keys n) where
-      module _ {r : Read} {m : ℕ} (z : en ≡ Over r m) where
+      module _ {r : Read} {m : ℕ} (z : en ≡ Over m r) where
         done : Over-with s (headerCell s table) at (pass (headerCell s table) s at noColumns) n keys m keys′ (stop r (l .head))
         done = walk-over (headerCell s table) (cell-forward s table) inside (not-object s at e) (l .walk) x y z
 

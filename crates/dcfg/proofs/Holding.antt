@@ -148,7 +148,7 @@ module _ (s keys₀ : List ℕ) (top : ℕ) where
       rising = subst Rising (sym part-call) (h .rising);
     }
 
-  module _ (keys : List ℕ) (from n : ℕ) (h : Held s keys₀ keys top from n) (small : length s ≤ 1048576) (big : 349526 ≤ length keys₀) where
+  module _ (keys : List ℕ) (from n : ℕ) (h : Held s keys₀ keys top from n) (small : length s ≤ 1048576) (big : length s < 3 * length keys₀) where
     pub held-room : n < length keys
     held-room = omega (arith, h .room, h .within, h .long)
 

@@ -20,6 +20,7 @@ pub mod Ending
 pub mod Tabling
 pub mod Noting
 pub mod Celling
+pub mod Choosing
 pub mod Rowing
 pub mod Putting
 pub mod TableRows

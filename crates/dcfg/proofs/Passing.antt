@@ -29,7 +29,7 @@ pub record WasValue (x : Next) (n : ℕ) (keys : List ℕ) (v m : ℕ) (keys′ 
   pub count : m ≡ countOf n key
   pub stored : keys′ ≡ kept keys n key
 
-pub was-over : (x : Next) (n : ℕ) (keys : List ℕ) (r : Read) (m : ℕ) (keys′ : List ℕ) → entryOf x n ≡ Over r m → keys′ ≡ keptOf x keys n → WasOver x n keys r m keys′
+pub was-over : (x : Next) (n : ℕ) (keys : List ℕ) (r : Read) (m : ℕ) (keys′ : List ℕ) → entryOf x n ≡ Over m r → keys′ ≡ keptOf x keys n → WasOver x n keys r m keys′
 was-over (over q k) n keys r m keys′ e f = record { key = k; is = cc; count = cc; stored = f }
 was-over (value v k) n keys r m keys′ e f = clash (cc)
 
@@ -53,7 +53,7 @@ pub record Ended {A : Type 0} (s : List ℕ) (f : A → First → ℕ → Step A
   pub rest : fold r (part keys top m) ≡ pass f s o a₀
 
 module _ {A : Type 0} (s : List ℕ) (f : A → First → ℕ → Step A) (o : ℕ) (ol : o < length s) (fw : Forward s f) (a₀ : A)
-    (keys₀ : List ℕ) (top : ℕ) (small : length s ≤ 1048576) (big : 349526 ≤ length keys₀) where
+    (keys₀ : List ℕ) (top : ℕ) (small : length s ≤ 1048576) (big : length s < 3 * length keys₀) where
   pub passing-start : 3 * top ≤ o → Passing s f o a₀ keys₀ top keys₀ o top a₀
   unfolding pass
   passing-start r = record { held = held-start s keys₀ top o (omega arith) r; rest = ap (λ (g : List ℕ). each (suc (length s)) f s o o g a₀) (part-empty keys₀ top) }
@@ -111,19 +111,19 @@ module _ {A : Type 0} (s : List ℕ) (f : A → First → ℕ → Step A) (o : �
 pub record Opening (s : List ℕ) (o : ℕ) (keys₀ : List ℕ) : Type 0 where
   pub inside : o < length s
   pub small : length s ≤ 1048576
-  pub big : 349526 ≤ length keys₀
+  pub big : length s < 3 * length keys₀
 
 module _ {A : Type 0} {s : List ℕ} (f : A → First → ℕ → Step A) (fw : Forward s f) {o : ℕ} {a₀ : A} {keys₀ : List ℕ} {top : ℕ} (w : Opening s o keys₀) where
   pub pass-start : 3 * top ≤ o → Passing s f o a₀ keys₀ top keys₀ o top a₀
   pass-start r = passing-start s f o (w .inside) fw a₀ keys₀ top (w .small) (w .big) r
 
   pub pass-member : {keys : List ℕ} {from n : ℕ} {a : A} → Passing s f o a₀ keys₀ top keys from n a
-      → (o < length s) × (from ≤ length s) × (length s ≤ 1048576) × (3 * n ≤ from) × (349526 ≤ length keys)
+      → (o < length s) × (from ≤ length s) × (length s ≤ 1048576) × (3 * n ≤ from) × (length s < 3 * length keys)
   pass-member p = (w .inside, p .held .within, w .small, p .held .room, omega (arith, p .held .long, w .big))
 
   pub pass-over : {keys : List ℕ} {from n : ℕ} {a : A} → Passing s f o a₀ keys₀ top keys from n a
       → {e : Entry} {keys′ : List ℕ} → e ≡ entryOf (nextIn s o from) n → keys′ ≡ keptOf (nextIn s o from) keys n
-      → {r : Read} {m : ℕ} → e ≡ Over r m → Ended s f o a₀ keys₀ top keys′ m (stop r a)
+      → {r : Read} {m : ℕ} → e ≡ Over m r → Ended s f o a₀ keys₀ top keys′ m (stop r a)
   pass-over {keys} {from} {n} {a} p {e} {keys′} x y {r} {m} z = passing-over s f o (w .inside) fw a₀ keys₀ top (w .small) (w .big) keys from n a p r m keys′
       (was-over (nextIn s o from) n keys r m keys′ (sym x ∙ z) y)
 

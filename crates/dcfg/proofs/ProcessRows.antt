@@ -74,7 +74,7 @@ module _ {s : List ℕ} (index : ℕ) {at : ℕ} (e : eqb (byteAt s at) 91 ≡ t
   }
 
   module _ {keys edges counts : List ℕ} {list : Listing} {from i had : ℕ} (l : RowLoop s index at keys₀ top known edges₀ counts₀ first keys edges counts list from i had) where
-    pub row-member : (at < length s) × (from ≤ length s) × (length s ≤ 1048576) × (3 * top ≤ from) × (349526 ≤ length keys)
+    pub row-member : (at < length s) × (from ≤ length s) × (length s ≤ 1048576) × (3 * top ≤ from) × (length s < 3 * length keys)
     row-member = held-member w (l .held)
 
     abbrev here : Table
@@ -84,7 +84,7 @@ module _ {s : List ℕ} (index : ℕ) {at : ℕ} (e : eqb (byteAt s at) 91 ≡ t
     start = pass (rowCell s (processes s)) s at (rowBegun (atRow known (index + 1) (documentOf first edges₀ counts₀)))
 
     module _ {en : Entry} {keys′ : List ℕ} (x : en ≡ entryOf (nextIn s at from) top) (y : keys′ ≡ keptOf (nextIn s at from) keys top) where
-      pub row-over : {r : Read} {m : ℕ} → en ≡ Over r m → (out : Passed) → stepOf out ≡ stop r tt → {h : Listing} → h ≡ lackingIn (ltb had 2) list → {q : Outcome} → q ≡ carried out h
+      pub row-over : {r : Read} {m : ℕ} → en ≡ Over m r → (out : Passed) → stepOf out ≡ stop r tt → {h : Listing} → h ≡ lackingIn (ltb had 2) list → {q : Outcome} → q ≡ carried out h
           → BothRead (λ d. documented (rowAt s (processes s) (atRow known (index + 1) d) at)) first edges₀ counts₀ q edges counts × (take top keys′ ≡ take top keys₀)
       unfolding rowAt
       row-over {r} {m} z out f {h} g {q} b =

@@ -145,7 +145,7 @@ module _ {s : List ℕ} {at start : ℕ} (e : eqb (byteAt s at) 91 ≡ true) {ke
   }
 
   module _ {keys edges counts : List ℕ} {list : Listing} {from index : ℕ} (l : RowsLoop s at start known keys₀ top edges₀ counts₀ first keys edges counts list from index) where
-    pub rows-member : (at < length s) × (from ≤ length s) × (length s ≤ 1048576) × (3 * top ≤ from) × (349526 ≤ length keys)
+    pub rows-member : (at < length s) × (from ≤ length s) × (length s ≤ 1048576) × (3 * top ≤ from) × (length s < 3 * length keys)
     rows-member = held-member w (l .held)
 
     abbrev here : Table
@@ -155,7 +155,7 @@ module _ {s : List ℕ} {at start : ℕ} (e : eqb (byteAt s at) 91 ≡ true) {ke
     whole = each (suc (length s)) (tableRow s (processes s)) s at start [] (behindHeader known (documentOf first edges₀ counts₀))
 
     module _ {en : Entry} {keys′ : List ℕ} (x : en ≡ entryOf (nextIn s at from) top) (y : keys′ ≡ keptOf (nextIn s at from) keys top) where
-      pub rows-over : {r : Read} {m : ℕ} → en ≡ Over r m → (out : Passed) → stepOf out ≡ stop r tt → {b : Bool} → b ≡ lacks (columnsOf 2) known → {h : Listing} → h ≡ lackingIn b list → {q : Outcome} → q ≡ carried out h
+      pub rows-over : {r : Read} {m : ℕ} → en ≡ Over m r → (out : Passed) → stepOf out ≡ stop r tt → {b : Bool} → b ≡ lacks (columnsOf 2) known → {h : Listing} → h ≡ lackingIn b list → {q : Outcome} → q ≡ carried out h
           → BothRead (restAt s (processes s) at start known) first edges₀ counts₀ q edges counts × (take top keys′ ≡ take top keys₀)
       rows-over {r} {m} z out f {b} c {h} g {q} i =
           let done : Over-with s (tableRow s (processes s)) at whole top keys m keys′ (stop r here) = walk-over (tableRow s (processes s)) (table-forward s (processes s) (processes-forward s)) (w .inside) (not-object s at e) (l .walk) x y z in

@@ -79,7 +79,7 @@ module _ {s : List ℕ} (index : ℕ) {at : ℕ} (object : eqb (byteAt s at) 123
   }
 
   module _ {keys edges counts : List ℕ} {run : Running} {from n : ℕ} (l : ProcessLoop s index at keys₀ top edges₀ counts₀ (fresh list) keys edges counts run from n) where
-    pub process-member : (at < length s) × (from ≤ length s) × (length s ≤ 1048576) × (3 * n ≤ from) × (349526 ≤ length keys)
+    pub process-member : (at < length s) × (from ≤ length s) × (length s ≤ 1048576) × (3 * n ≤ from) × (length s < 3 * length keys)
     process-member = pass-member (processValue s index) (process-forward s index) w (l .passing)
 
     -- How it ends.
@@ -99,7 +99,7 @@ module _ {s : List ℕ} (index : ℕ) {at : ℕ} (object : eqb (byteAt s at) 123
     )
 
     module _ {en : Entry} {keys′ : List ℕ} (x : en ≡ entryOf (nextIn s at from) n) (y : keys′ ≡ keptOf (nextIn s at from) keys n) where
-      module _ {r : Read} {m : ℕ} (z : en ≡ Over r m) where
+      module _ {r : Read} {m : ℕ} (z : en ≡ Over m r) where
         done : Ended s (processValue s index) at (processOf (fresh list) edges₀ counts₀) keys₀ top keys′ m (stop r (processOf run edges counts))
         done = pass-over (processValue s index) (process-forward s index) w (l .passing) x y z
 

@@ -96,6 +96,7 @@ pub record RowLoop (s : List ℕ) (table : ℕ) (known : List ℕ) (at : ℕ) (k
   pub own-in : OwnIn at from own
   pub once : Once (getD known 0 0) i own
   pub few : had ≤ i
+  pub all : length values ≡ 5
   pub passed : i ≤ from
 
 abbrev zeros : List ℕ
@@ -142,6 +143,7 @@ module _ {s : List ℕ} (table : ℕ) (known : List ℕ) {at : ℕ} (e : eqb (by
     own-in = omega arith;
     once = omega arith;
     few = omega arith;
+    all = refl;
     passed = omega arith;
   }
 
@@ -149,7 +151,7 @@ module _ {s : List ℕ} (table : ℕ) (known : List ℕ) {at : ℕ} (e : eqb (by
     room-here : 3 * n ≤ from
     room-here = omega (arith, l .count, count-room at top from (l .own) free (l .own-in))
 
-    pub row-member : (at < length s) × (from ≤ length s) × (length s ≤ 1048576) × (3 * n ≤ from) × (349526 ≤ length keys)
+    pub row-member : (at < length s) × (from ≤ length s) × (length s ≤ 1048576) × (3 * n ≤ from) × (length s < 3 * length keys)
     row-member = (inside, l .within, room .small, room-here, omega (arith, l .long, room .big))
 
     -- How it ends.
@@ -158,7 +160,7 @@ module _ {s : List ℕ} (table : ℕ) (known : List ℕ) {at : ℕ} (e : eqb (by
     row-ended process t r d out f g = rw (e, cellsAt) (subst (RowSays t (l .own) had values out) (ap ended d) (row-says t (l .own) i had values out r f g))
 
     module _ {en : Entry} {keys′ : List ℕ} (x : en ≡ entryOf (nextIn s at from) n) (y : keys′ ≡ keptOf (nextIn s at from) keys n) (b : EntryIn from (length s) n en) where
-      module _ {r : Read} {m : ℕ} (z : en ≡ Over r m) where
+      module _ {r : Read} {m : ℕ} (z : en ≡ Over m r) where
         done : (process : ℕ) (t : Table) → t .known ≡ known
             → Over-with s (rowCell s (kindOf s table process)) at (pass (rowCell s (kindOf s table process)) s at (rowBegun t)) n keys m keys′ (stop r (inRow t (l .own) i had values))
         done process t k = walk-over (rowCell s (kindOf s table process)) (row-forward s (kindOf s table process) (listing-forward s table process)) inside (not-object s at e) (l .walk process t k) x y z
@@ -230,9 +232,9 @@ module _ {s : List ℕ} (table : ℕ) (known : List ℕ) {at : ℕ} (e : eqb (by
                 → rowCell s (kindOf s table process) (inRow t (l .own) i had values) none v ≡ go next (inRow t (ownWith (l .own) (ownAt k v)) (i + 1) (hadWith k had) (valuesWith k value values))
             went process t q = row-goes s table process t i had values k v value (λ d row. g d row ∙ ap (λ (o : Got). valued d (integerStepOf o)) is) (column-is t q) (l .own) own-free
 
-            pub row-next : (v < next) × (next ≤ length s) × (from < v) × (n < length keys″) × (had < 4294967296)
+            pub row-next : (v < next) × (next ≤ length s) × (from < v) × (n < length keys″) × (had < 4294967296) × (length values ≡ 5)
             row-next = let w : (v < next) × (next ≤ length s) = walk-in (rowCell s (kindOf s table 0)) (row-forward s (kindOf s table 0) (listing-forward s table 0)) inside (not-object s at e) here (went 0 (atRow known 1 nothing) refl) in
-                (w .0, w .1, here .behind, omega (arith, room-here, l .within, room .small, room .big, long″), omega (arith, l .few, l .passed, l .within, room .small))
+                (w .0, w .1, here .behind, omega (arith, room-here, l .within, room .small, room .big, long″), omega (arith, l .few, l .passed, l .within, room .small), l .all)
 
             pub row-again : {n′ : ℕ} {keys‴ : List ℕ} {had′ : ℕ} {values′ : List ℕ} → n′ ≡ countOf n (ownAt k v) → keys‴ ≡ kept keys″ n (ownAt k v)
                 → had′ ≡ hadWith k had → values′ ≡ valuesWith k value values → RowLoop s table known at keys₀ top keys‴ had′ values′ next n′ (i + 1)
@@ -240,6 +242,9 @@ module _ {s : List ℕ} (table : ℕ) (known : List ℕ) {at : ℕ} (e : eqb (by
               where
                 few′ : hadWith k had ≤ i + 1
                 few′ = both (λ (h : ℕ). h ≤ i + 1) (ltb k 5) (λ q. omega (arith, l .few)) (λ q. omega (arith, l .few))
+
+                all′ : length (valuesWith k value values) ≡ 5
+                all′ = both (λ (l : List ℕ). length l ≡ 5) (ltb k 5) (λ q. length-set values k value ∙ l .all) (λ q. l .all)
 
                 walked : (own : First) → ownWith (l .own) (ownAt k v) ≡ own → (process : ℕ) (t : Table) → t .known ≡ known
                     → Walking s (rowCell s (kindOf s table process)) at (pass (rowCell s (kindOf s table process)) s at (rowBegun t)) next (inRow t own (i + 1) (hadWith k had) (valuesWith k value values))
@@ -262,6 +267,7 @@ module _ {s : List ℕ} (table : ℕ) (known : List ℕ) {at : ℕ} (e : eqb (by
                       own-in = omega (arith, row-next, own-before at from (l .own) (l .own-in));
                       once = omega (arith, column-first known (i + 1) (sym five) (sym kn ∙ eqb-true k 0 q));
                       few = few′;
+                      all = all′;
                       passed = omega (arith, row-next, l .passed);
                     })
                 go-on false q own w = rw (own-at k v q) (record {
@@ -275,6 +281,7 @@ module _ {s : List ℕ} (table : ℕ) (known : List ℕ) {at : ℕ} (e : eqb (by
                   own-in = own-later at from next (l .own) (omega (arith, row-next)) (l .own-in);
                   once = once-later (getD known 0 0) i (l .own) (l .once);
                   few = few′;
+                  all = all′;
                   passed = omega (arith, row-next, l .passed);
                 })
 

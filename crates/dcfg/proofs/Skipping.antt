@@ -1,5 +1,5 @@
 -- The loop of `skip` makes the definition's pass. Assumes nothing.
-use Prim.Native.Nat.{ℕ, zero, suc, _-_, _≤_}
+use Prim.Native.Nat.{ℕ, zero, suc, _-_, _*_, _≤_, _<_}
 use mathlib.Core.Path.{_≡_, refl, sym, ap, _∙_}
 use mathlib.Core.Bool.{Bool, true, false, not}
 use mathlib.Core.List.{List}
@@ -53,7 +53,7 @@ pub record Opened (s : List ℕ) (left at : ℕ) (keys₀ : List ℕ) : Type 0 w
   pub opening : Opening s at keys₀
 
 pub opened-by : (s : List ℕ) (left at : ℕ) (keys₀ : List ℕ) {b : ℕ} {t : Bool} → b ≡ byteAt s at → t ≡ opens b → not t ≡ false → (left ≡ 0 → ⊥)
-    → length s ≤ 1048576 → 349526 ≤ length keys₀ → Opened s left at keys₀
+    → length s ≤ 1048576 → length s < 3 * length keys₀ → Opened s left at keys₀
 opened-by s left at keys₀ e f n some small big =
     let h : opens (byteAt s at) ≡ true = ap opens (sym e) ∙ sym f ∙ not-false _ n in
     record { opened = h; some = some; opening = record { inside = opens-inside s at h; small = small; big = big } }

@@ -86,7 +86,7 @@ module _ (s : List ℕ) (table at : ℕ) (e : eqb (byteAt s at) 91 ≡ true) whe
   inside : at < length s
   inside = told s at 91 (omega arith) e
 
-  pub head-member : {keys : List ℕ} {top : ℕ} → Room s at keys top → (at < length s) × (at ≤ length s) × (length s ≤ 1048576) × (3 * top ≤ at) × (349526 ≤ length keys)
+  pub head-member : {keys : List ℕ} {top : ℕ} → Room s at keys top → (at < length s) × (at ≤ length s) × (length s ≤ 1048576) × (3 * top ≤ at) × (length s < 3 * length keys)
   head-member room = (inside, room .within, room .small, room .room, room .big)
 
   -- By how its pass goes.
@@ -102,7 +102,7 @@ module _ (s : List ℕ) (table at : ℕ) (e : eqb (byteAt s at) 91 ≡ true) whe
     halt-none m p = ap (closed kind) (unless-nothing s true (halt m p (begin d)))
 
   module _ {en : Entry} (n : ℕ) (keys : List ℕ) {keys′ : List ℕ} (x : en ≡ entryOf (nextIn s at at) n) (y : keys′ ≡ keptOf (nextIn s at at) keys n) where
-    module _ {rd : Read} {m : ℕ} (z : en ≡ Over rd m) where
+    module _ {rd : Read} {m : ℕ} (z : en ≡ Over m rd) where
       over-by : (kind : Kind) → Forward s (tableRow s kind) → (d : Document) → fold (stop rd (begin d)) [] ≡ pass (tableRow s kind) s at (begin d)
       over-by kind fw d = walk-over (tableRow s kind) fw inside (not-object s at e) (walk-start (tableRow s kind) fw inside (not-object s at e)) x y z .rest
 

@@ -200,14 +200,14 @@ module _ {s : List ℕ} (table process : ℕ) (known : List ℕ) (at : ℕ) {sta
       ∙ ap (λ (y : Step Table). telling (closed kind (idsOnce s y))) (ap ended (h .is))
 
   module _ {keys edges : List ℕ} {l : Listing} {from n : ℕ} (r : RowsLoop s table process known at start keys₀ top edges₀ l₀ keys edges l from n) where
-    pub rows-member : (at < length s) × (from ≤ length s) × (length s ≤ 1048576) × (3 * n ≤ from) × (349526 ≤ length keys)
+    pub rows-member : (at < length s) × (from ≤ length s) × (length s ≤ 1048576) × (3 * n ≤ from) × (length s < 3 * length keys)
     rows-member = (inside, r .held .within, room .small, r .held .room, omega (arith, r .held .long, room .big))
 
     free : n < length keys
     free = held-room s keys₀ top keys from n (r .held) (room .small) (room .big)
 
     module _ {en : Entry} {keys′ : List ℕ} (x : en ≡ entryOf (nextIn s at from) n) (y : keys′ ≡ keptOf (nextIn s at from) keys n) where
-      module _ {rd : Read} {m : ℕ} (z : en ≡ Over rd m) where
+      module _ {rd : Read} {m : ℕ} (z : en ≡ Over m rd) where
         done : (threads : List ℕ) → Over-with s (tableRow s kind) at (wholeRows s table process known at start (documentOf l₀ edges₀ threads)) n keys m keys′ (stop rd (r .rows threads .table))
         done threads = walk-over (tableRow s kind) forward inside (not-object s at e) (r .rows threads .walk) x y z
 

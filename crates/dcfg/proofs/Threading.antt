@@ -159,11 +159,11 @@ module _ {s : List ℕ} (index : ℕ) {at : ℕ} (e : eqb (byteAt s at) 91 ≡ t
   }
 
   module _ {keys counts : List ℕ} {run : Running} {from : ℕ} (l : ThreadsLoop s index at keys₀ top counts₀ first keys counts run from) where
-    pub threads-member : (at < length s) × (from ≤ length s) × (length s ≤ 1048576) × (3 * top ≤ from) × (349526 ≤ length keys)
+    pub threads-member : (at < length s) × (from ≤ length s) × (length s ≤ 1048576) × (3 * top ≤ from) × (length s < 3 * length keys)
     threads-member = held-member w (l .held)
 
     module _ {en : Entry} {keys′ : List ℕ} (x : en ≡ entryOf (nextIn s at from) top) (y : keys′ ≡ keptOf (nextIn s at from) keys top) where
-      module _ {r : Read} {m : ℕ} (z : en ≡ Over r m) where
+      module _ {r : Read} {m : ℕ} (z : en ≡ Over m r) where
         done : (edges : List ℕ) → Over-with s (threadAt s index) at (pass (threadAt s index) s at (processOf first edges counts₀)) top keys m keys′ (stop r (processOf run edges counts))
         done edges = walk-over (threadAt s index) (thread-forward s index) (w .inside) (not-object s at e) (l .walk edges) x y z
 

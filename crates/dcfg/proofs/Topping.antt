@@ -168,7 +168,7 @@ module _ {s : List ℕ} {at : ℕ} (object : eqb (byteAt s at) 123 ≡ true) {ke
   }
 
   module _ {keys edges counts : List ℕ} {list : Listing} {from n had : ℕ} (l : TopLoop s at keys₀ edges₀ counts₀ keys edges counts list from n had) where
-    pub object-member : (at < length s) × (from ≤ length s) × (length s ≤ 1048576) × (3 * n ≤ from) × (349526 ≤ length keys)
+    pub object-member : (at < length s) × (from ≤ length s) × (length s ≤ 1048576) × (3 * n ≤ from) × (length s < 3 * length keys)
     object-member = pass-member (topKey s) (top-forward s) w (l .passing)
 
     -- How it ends.
@@ -185,7 +185,7 @@ module _ {s : List ℕ} {at : ℕ} (object : eqb (byteAt s at) 123 ≡ true) {ke
         ∙ ap (λ y. telling (topped (unlessRepeated s false y))) (d .rest) ∙ rw (object, topAt)))
 
     module _ {en : Entry} {keys′ : List ℕ} (x : en ≡ entryOf (nextIn s at from) n) (y : keys′ ≡ keptOf (nextIn s at from) keys n) where
-      module _ {r : Read} {m : ℕ} (z : en ≡ Over r m) where
+      module _ {r : Read} {m : ℕ} (z : en ≡ Over m r) where
         done : Ended s (topKey s) at (record { doc = nothing; had = 0 }) keys₀ 0 keys′ m (stop r (topOf list edges counts had))
         done = pass-over (topKey s) (top-forward s) w (l .passing) x y z
 

@@ -67,7 +67,7 @@ module _ {A : Type 0} {s : List ℕ} (f : A → First → ℕ → Step A) (fw : 
 
   module _ {w : Fold A} {from : ℕ} {a : A} (p : Walking s f o w from a) {e : Entry} {n : ℕ} {keys keys′ : List ℕ}
       (x : e ≡ entryOf (nextIn s o from) n) (y : keys′ ≡ keptOf (nextIn s o from) keys n) where
-    pub walk-over : {r : Read} {m : ℕ} → e ≡ Over r m → Over-with s f o w n keys m keys′ (stop r a)
+    pub walk-over : {r : Read} {m : ℕ} → e ≡ Over m r → Over-with s f o w n keys m keys′ (stop r a)
     walk-over {r} {m} z =
         let was : WasOver (nextIn s o from) n keys r m keys′ = was-over (nextIn s o from) n keys r m keys′ (sym x ∙ z) y in
         let k : was .key ≡ none = ap keyOf (sym (was .is)) ∙ no-key s o from array in

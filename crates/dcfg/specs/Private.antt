@@ -38,7 +38,7 @@ pub record Room (s : List ℕ) (at : ℕ) (keys : List ℕ) (top : ℕ) : Type 0
   pub within : at ≤ length s
   pub small : length s ≤ 1048576
   pub room : 3 * top ≤ at
-  pub big : 349526 ≤ length keys
+  pub big : length s < 3 * length keys
 
 -- What is read ends behind low, at high at the latest.
 abbrev pub StepIn : {A : Type 0} → ℕ → ℕ → Step A → Type 0
@@ -62,7 +62,7 @@ countOf n (first q) = n + 1
 
 abbrev pub entryOf : Next → ℕ → Entry
 entryOf (value i k) n = Value i (countOf n k)
-entryOf (over r k) n = Over r (countOf n k)
+entryOf (over r k) n = Over (countOf n k) r
 
 abbrev pub kept : List ℕ → ℕ → First → List ℕ
 kept l n none = l
@@ -75,7 +75,7 @@ keptOf (over r k) l n = kept l n k
 -- The next value lies behind `low`; each key took three bytes.
 abbrev pub EntryIn : ℕ → ℕ → ℕ → Entry → Type 0
 EntryIn low high n (Value v m) = (low < v) × (v ≤ high) × (3 * m ≤ v) × (n ≤ m)
-EntryIn low high n (Over out m) = (n ≤ m) × (3 * m ≤ high) × ReadIn low high out
+EntryIn low high n (Over m out) = (n ≤ m) × (3 * m ≤ high) × ReadIn low high out
 
 -- A place at which a key stands.
 unfoldable pub Place : List ℕ → ℕ → Type 0

@@ -14,33 +14,33 @@ use json::strings::string;
 
 pub enum Entry {
     Value(usize, usize),
-    Over(Read, usize),
+    Over(usize, Read),
 }
 
 fn keyed(text: &[u8], at: usize, keys: &mut [u32], n: usize) -> Entry
-    requires { ⌜ (length (now text) ≤ 1048576) × (3 * n < at) × (349526 ≤ length (now keys)) ⌝ }
+    requires { ⌜ (length (now text) ≤ 1048576) × (3 * n < at) × (length (now text) < 3 * length (now keys)) ⌝ }
     ensures { λ r. ⌜ (r ≡ entryOf (spec.keyed (now (text .entry)) at (stringAt (now (text .entry)) at)) n) × (now (keys .exit) ≡ keptOf (spec.keyed (now (text .entry)) at (stringAt (now (text .entry)) at)) (now (keys .entry)) n) ⌝ }
 {
     match string(text, at) {
-        Read::No(place) => Entry::Over(Read::No(place), n),
+        Read::No(place) => Entry::Over(n, Read::No(place)),
         Read::At(next) => {
             keys[n] = at as u32;
             let m = n + 1;
             match colon(text, next) {
                 Read::At(value) => Entry::Value(value, m),
-                Read::No(place) => Entry::Over(Read::No(place), m),
+                Read::No(place) => Entry::Over(m, Read::No(place)),
             }
         }
     }
 }
 
 pub fn member(text: &[u8], start: usize, from: usize, keys: &mut [u32], n: usize) -> Entry
-    requires { ⌜ (start < length (now text)) × (from ≤ length (now text)) × (length (now text) ≤ 1048576) × (3 * n ≤ from) × (349526 ≤ length (now keys)) ⌝ }
+    requires { ⌜ (start < length (now text)) × (from ≤ length (now text)) × (length (now text) ≤ 1048576) × (3 * n ≤ from) × (length (now text) < 3 * length (now keys)) ⌝ }
     ensures { λ r. ⌜ (r ≡ entryOf (spec.nextIn (now (text .entry)) start from) n) × (now (keys .exit) ≡ keptOf (spec.nextIn (now (text .entry)) start from) (now (keys .entry)) n) × EntryIn from (length (now (text .entry))) n r ⌝ }
 {
     match item(text, start, from) {
-        Piece::Close(next) => Entry::Over(Read::At(next), n),
-        Piece::Stray(place) => Entry::Over(Read::No(place), n),
+        Piece::Close(next) => Entry::Over(n, Read::At(next)),
+        Piece::Stray(place) => Entry::Over(n, Read::No(place)),
         Piece::Next(at) => {
             if byte(text, start) == b'{' {
                 keyed(text, at, keys, n)

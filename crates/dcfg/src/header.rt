@@ -50,7 +50,7 @@ pub fn header(text: &[u8], at: usize, table: usize, keys: &mut [u32], top: usize
     let mut n = top;
     loop {
         match member(text, at, from, keys, n) {
-            Entry::Over(read, _) => {
+            Entry::Over(_, read) => {
                 let out = settle(text, false, keys, top, n, told(read));
                 return Heading { out, columns };
             }

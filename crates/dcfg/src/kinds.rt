@@ -124,7 +124,7 @@ pub fn integers(text: &[u8], at: usize, keys: &mut [u32], top: usize) -> Passed
     let mut n = top;
     loop {
         match member(text, at, from, keys, n) {
-            Entry::Over(out, _) => {
+            Entry::Over(_, out) => {
                 return told(out);
             }
             Entry::Value(value, m) => {

@@ -86,7 +86,7 @@ pub fn process(
     let mut n = top;
     loop {
         match member(text, at, from, keys, n) {
-            Entry::Over(read, m) => {
+            Entry::Over(m, read) => {
                 let out = settle(text, false, keys, top, m, told(read));
                 return carry(out, judged(run));
             }

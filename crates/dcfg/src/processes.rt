@@ -82,7 +82,7 @@ fn process_row(
     let mut had: usize = 0;
     loop {
         match member(text, at, from, keys, top) {
-            Entry::Over(read, _) => {
+            Entry::Over(_, read) => {
                 return carry(told(read), lacking(list, had < 2));
             }
             Entry::Value(place, _) => {
@@ -122,7 +122,7 @@ fn process_rows(
     let mut index: u64 = 0;
     loop {
         match member(text, at, from, keys, top) {
-            Entry::Over(read, _) => {
+            Entry::Over(_, read) => {
                 return carry(told(read), lacking(list, lacks(columns, 2)));
             }
             Entry::Value(place, _) => {

@@ -3,7 +3,7 @@ ghost use mathlib.Core.Path.{_≡_};
 ghost use mathlib.Core.Bool.{true, false};
 ghost use Prim.Native.Nat.{ℕ, _+_, _*_, _<_};
 ghost use lib.ListN.{length, set, take};
-ghost use lib.Dec.{ltb};
+ghost use lib.Dec.{eqb, ltb};
 ghost use Rattle.dcfg.specs.Document.{Document};
 ghost use Rattle.dcfg.specs.Tables.{valued};
 ghost use Rattle.dcfg.specs.Private.{integerStepOf, countOf, kept, Room};
@@ -69,16 +69,29 @@ fn own(keys: &mut [u32], n: usize, k: usize, place: usize) -> usize
     n + 1
 }
 
+fn chosen(k: usize, i: usize, value: u64, old: u64) -> u64
+    ensures { λ r. ⌜ r ≡ elim (eqb k i) [ true ↦ value | false ↦ old ] ⌝ }
+{
+    if k == i { value } else { old }
+}
+
+// A store at k would go through memory, and the copy of the cells would wait for it. So each cell is chosen.
 fn with_cell(cells: Cells, k: usize, value: u64) -> Cells
-    requires { ⌜ cells .had < 0x100000000 ⌝ }
+    requires { ⌜ (cells .had < 0x100000000) × (length (cells .values) ≡ 5) ⌝ }
     ensures { λ r. ⌜ (r .had ≡ elim (ltb k 5) [ true ↦ cells .had + 1 | false ↦ cells .had ]) × (r .values ≡ elim (ltb k 5) [ true ↦ set (cells .values) k value | false ↦ cells .values ]) ⌝ }
 {
-    let mut values = cells.values;
     if UNKNOWN <= k {
         return cells;
     }
-    values[k] = value;
+    let old = cells.values;
     let had = cells.had + 1;
+    let values = [
+        chosen(k, 0, value, old[0]),
+        chosen(k, 1, value, old[1]),
+        chosen(k, 2, value, old[2]),
+        chosen(k, 3, value, old[3]),
+        chosen(k, 4, value, old[4]),
+    ];
     Cells { had, values }
 }
 
@@ -106,7 +119,7 @@ pub fn row(
     let mut i: usize = 0;
     loop {
         match member(text, at, from, keys, n) {
-            Entry::Over(read, _) => {
+            Entry::Over(_, read) => {
                 let out = told(read);
                 return RowEnd { out, top: n, cells };
             }

@@ -71,7 +71,7 @@ pub fn skip(text: &[u8], at: usize, left: u32, keys: &mut [u32], top: usize) -> 
     let mut n = top;
     loop {
         match member(text, at, from, keys, n) {
-            Entry::Over(out, m) => {
+            Entry::Over(m, out) => {
                 return settle(text, false, keys, top, m, told(out));
             }
             Entry::Value(value, m) => {

@@ -108,7 +108,7 @@ fn rows(
     let mut n = top;
     loop {
         match member(text, at, from, keys, n) {
-            Entry::Over(read, _) => {
+            Entry::Over(_, read) => {
                 let out = settle(text, true, keys, top, n, told(read));
                 return carry(out, lacking(list, lacks(columns, table)));
             }
@@ -144,7 +144,7 @@ pub fn head(text: &[u8], at: usize, table: usize, keys: &mut [u32], top: usize) 
         return Heading { out, columns };
     }
     match member(text, at, at, keys, top) {
-        Entry::Over(read, _) => {
+        Entry::Over(_, read) => {
             match read {
                 Read::At(_) => Heading {
                     out: Passed::To(at),

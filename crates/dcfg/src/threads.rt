@@ -87,7 +87,7 @@ pub fn threads(
     let mut from = at;
     loop {
         match member(text, at, from, keys, top) {
-            Entry::Over(read, _) => {
+            Entry::Over(_, read) => {
                 return run_on(told(read), run);
             }
             Entry::Value(place, _) => match an_integer(text, place, keys, top) {

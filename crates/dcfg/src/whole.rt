@@ -32,7 +32,12 @@ use json::bytes::byte;
 use json::bytes::space;
 use refusal::Refusal;
 
+// Room for the keys of a text: each takes three bytes of it.
 const KEYS: usize = 349526;
+
+const SHORT: usize = 65536;
+
+const KEYS_OF_SHORT: usize = 21846;
 
 // The value of a key of the top object, by the key's number.
 fn top_value(
@@ -88,7 +93,7 @@ fn top_object(
     let mut had: usize = 0;
     loop {
         match member(text, at, from, keys, n) {
-            Entry::Over(read, m) => {
+            Entry::Over(m, read) => {
                 let out = settle(text, false, keys, 0, m, told(read));
                 return carry(out, lacking(list, had < 5));
             }
@@ -110,6 +115,19 @@ fn top_object(
             }
         }
     }
+}
+
+// Clearing the keys of the longest text would take longer than reading a short one.
+fn top(text: &[u8], at: usize, edges: &mut [u64], counts: &mut [u64]) -> Outcome
+    requires { ⌜ (at ≤ length (now text)) × (length (now text) ≤ 1048576) × Lent 5 4096 0 (now edges) × Lent 2 256 0 (now counts) ⌝ }
+    ensures { λ r. ⌜ BothRead (λ d. topped (topAt (now (text .entry)) at)) empty (now (edges .entry)) (now (counts .entry)) r (now (edges .exit)) (now (counts .exit)) ⌝ }
+{
+    if text.len() <= SHORT {
+        let mut keys = [0u32; KEYS_OF_SHORT];
+        return top_object(text, at, &mut keys, edges, counts);
+    }
+    let mut keys = [0u32; KEYS];
+    top_object(text, at, &mut keys, edges, counts)
 }
 
 // At the end of the text: 38, then 39.
@@ -134,9 +152,8 @@ pub fn whole(text: &[u8], edges: &mut [u64], counts: &mut [u64]) -> Outcome
     ensures { λ r. ⌜ answerBy r (now (edges .exit)) (now (counts .exit)) ≡ spec.whole (now (text .entry)) (topAt (now (text .entry)) (space (now (text .entry)) 0)) ⌝ }
     ensures { λ r. ⌜ Kept 5 4096 0 (now (edges .entry)) (edgesIn 4096 r) (now (edges .exit)) × Kept 2 256 0 (now (counts .entry)) (threadsIn 256 r) (now (counts .exit)) ⌝ }
 {
-    let mut keys = [0u32; KEYS];
     let at = space(text, 0);
-    let out = top_object(text, at, &mut keys, edges, counts);
+    let out = top(text, at, edges, counts);
     match out {
         Outcome::On(next, list) => carry(finished(text, next, list), list),
         Outcome::Off(why, place) => Outcome::Off(why, place),

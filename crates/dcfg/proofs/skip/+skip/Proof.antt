@@ -76,22 +76,22 @@ skip-member-requires : (t : ℕ) → skip-lts.Need-member-requires (claims t) (s
 skip-member-requires t c κs = let o = opened t (c .before .before) in
     pass-member (deeper _ _) (deeper-forward _ _) (o .opening) (c .before .loop .inv)
 
-skip-enum-known-out : (t : ℕ) → skip-lts.Need-enum-known-out (claims t) (skip-at t) skip.Post skip-Inv-loop skip-μ-loop
-skip-enum-known-out t c = search needs
+skip-enum-known-m : (t : ℕ) → skip-lts.Need-enum-known-m (claims t) (skip-at t) skip.Post skip-Inv-loop skip-μ-loop
+skip-enum-known-m t c = search needs
 
 skip-told-requires-2 : (t : ℕ) → skip-lts.Need-told-requires-2 (claims t) (skip-at t) skip.Post skip-Inv-loop skip-μ-loop
 skip-told-requires-2 t c κs = search needs
 
 skip-settle-requires : (t : ℕ) → skip-lts.Need-settle-requires (claims t) (skip-at t) skip.Post skip-Inv-loop skip-μ-loop
 skip-settle-requires t c κs = let o = opened t (c .before .before .before .before .before .before .before .before .before .before) in
-    pass-settles (deeper _ _) (deeper-forward _ _) (o .opening) (pass-over (deeper _ _) (deeper-forward _ _) (o .opening) (c .before .before .before .before .before .before .before .before .before .loop .inv) (c .before .before .before .before .before .before .before .member .ensures .0) (c .before .before .before .before .before .before .before .member .ensures .1) (c .before .before .before .out .given .1))
+    pass-settles (deeper _ _) (deeper-forward _ _) (o .opening) (pass-over (deeper _ _) (deeper-forward _ _) (o .opening) (c .before .before .before .before .before .before .before .before .before .loop .inv) (c .before .before .before .before .before .before .before .member .ensures .0) (c .before .before .before .before .before .before .before .member .ensures .1) (c .before .before .before .m .given .1))
 
 skip-same-length : (t : ℕ) → skip-lts.Need-same-length (claims t) (skip-at t) skip.Post skip-Inv-loop skip-μ-loop
 skip-same-length t c = search needs
 
 skip-returns-3 : (t : ℕ) → skip-lts.Need-returns-3 (claims t) (skip-at t) skip.Post skip-Inv-loop skip-μ-loop
 skip-returns-3 t c = let o = opened t (c .before .before .before .before .before .before .before .before .before .before .before .before .before) in
-    skip-ends o (pass-over (deeper _ _) (deeper-forward _ _) (o .opening) (c .before .before .before .before .before .before .before .before .before .before .before .before .loop .inv) (c .before .before .before .before .before .before .before .before .before .before .member .ensures .0) (c .before .before .before .before .before .before .before .before .before .before .member .ensures .1) (c .before .before .before .before .before .before .out .given .1)) (c .before .before .settle .last .1 .1 .0) (c .before .before .settle .ensures .0) (c .before .before .before .told2 .ensures) (c .before .before .settle .ensures .1)
+    skip-ends o (pass-over (deeper _ _) (deeper-forward _ _) (o .opening) (c .before .before .before .before .before .before .before .before .before .before .before .before .loop .inv) (c .before .before .before .before .before .before .before .before .before .before .member .ensures .0) (c .before .before .before .before .before .before .before .before .before .before .member .ensures .1) (c .before .before .before .before .before .before .m .given .1)) (c .before .before .settle .last .1 .1 .0) (c .before .before .settle .ensures .0) (c .before .before .before .told2 .ensures) (c .before .before .settle .ensures .1)
 
 skip-enum-known-value : (t : ℕ) → skip-lts.Need-enum-known-value (claims t) (skip-at t) skip.Post skip-Inv-loop skip-μ-loop
 skip-enum-known-value t c = search needs
@@ -103,16 +103,16 @@ skip-skip-requires : (t : ℕ) → skip-lts.Need-skip-requires (claims t) (skip-
 skip-skip-requires t c κs = let o = opened t (c .before .before .before .before .before .before .before .before .before) in
     (omega (arith, c .before .before .before .before .before .before .before .before .before .before .before .before .before .before .before .pre .0, o .some), pass-value (deeper _ _) (deeper-forward _ _) (o .opening) (c .before .before .before .before .before .before .before .before .loop .inv) (c .before .before .before .before .before .before .member .ensures .0) (c .before .before .before .before .before .before .member .ensures .1) (c .before .before .value .given .1))
 
-skip-enum-known-out-2 : (t : ℕ) → skip-lts.Need-enum-known-out-2 (claims t) (skip-at t) skip.Post skip-Inv-loop skip-μ-loop
-skip-enum-known-out-2 t c = search needs
+skip-enum-known-out : (t : ℕ) → skip-lts.Need-enum-known-out (claims t) (skip-at t) skip.Post skip-Inv-loop skip-μ-loop
+skip-enum-known-out t c = search needs
 
 skip-loop-less : (t : ℕ) → skip-lts.Need-loop-less (claims t) (skip-at t) skip.Post skip-Inv-loop skip-μ-loop
 skip-loop-less t c = let o = opened t (c .before .before .before .before .before .before .before .before .before .before .before .before .before .before .before) in
-    pass-less (deeper _ _) (deeper-forward _ _) (o .opening) (c .before .before .before .before .before .before .before .before .before .before .before .before .before .before .loop .inv) (c .before .before .before .before .before .before .before .before .before .before .before .before .member .ensures .0) (c .before .before .before .before .before .before .before .before .before .before .before .before .member .ensures .1) (c .before .before .before .before .before .before .before .before .value .given .1) (sym (c .before .before .before .before .before .skip .ensures .0) ∙ ap stepOf (c .before .out2 .given .1))
+    pass-less (deeper _ _) (deeper-forward _ _) (o .opening) (c .before .before .before .before .before .before .before .before .before .before .before .before .before .before .loop .inv) (c .before .before .before .before .before .before .before .before .before .before .before .before .member .ensures .0) (c .before .before .before .before .before .before .before .before .before .before .before .before .member .ensures .1) (c .before .before .before .before .before .before .before .before .value .given .1) (sym (c .before .before .before .before .before .skip .ensures .0) ∙ ap stepOf (c .before .out .given .1))
 
 skip-loop-again : (t : ℕ) → skip-lts.Need-loop-again (claims t) (skip-at t) skip.Post skip-Inv-loop skip-μ-loop
 skip-loop-again t c = let o = opened t (c .before .before .before .before .before .before .before .before .before .before .before .before .before .before .before) in
-    pass-go (deeper _ _) (deeper-forward _ _) (o .opening) (c .before .before .before .before .before .before .before .before .before .before .before .before .before .before .loop .inv) (c .before .before .before .before .before .before .before .before .before .before .before .before .member .ensures .0) (c .before .before .before .before .before .before .before .before .before .before .before .before .member .ensures .1) (c .before .before .before .before .before .before .before .before .value .given .1) (c .before .before .before .before .before .skip .last .1 .1 .1 .0) (c .before .before .before .before .before .skip .kept .1 .1 .1 .0) (c .before .before .before .before .before .skip .ensures .1) (sym (c .before .before .before .before .before .skip .ensures .0) ∙ ap stepOf (c .before .out2 .given .1))
+    pass-go (deeper _ _) (deeper-forward _ _) (o .opening) (c .before .before .before .before .before .before .before .before .before .before .before .before .before .before .loop .inv) (c .before .before .before .before .before .before .before .before .before .before .before .before .member .ensures .0) (c .before .before .before .before .before .before .before .before .before .before .before .before .member .ensures .1) (c .before .before .before .before .before .before .before .before .value .given .1) (c .before .before .before .before .before .skip .last .1 .1 .1 .0) (c .before .before .before .before .before .skip .kept .1 .1 .1 .0) (c .before .before .before .before .before .skip .ensures .1) (sym (c .before .before .before .before .before .skip .ensures .0) ∙ ap stepOf (c .before .out .given .1))
 
 skip-enum-told : (t : ℕ) → skip-lts.Need-enum-told (claims t) (skip-at t) skip.Post skip-Inv-loop skip-μ-loop
 skip-enum-told t c = search needs
@@ -142,7 +142,7 @@ pub +skip-spec : {M : Type 1} → statement M
     (skip-returns-2 t)
     (skip-loop-holds t)
     (skip-member-requires t)
-    (skip-enum-known-out t)
+    (skip-enum-known-m t)
     (skip-told-requires-2 t)
     (skip-settle-requires t)
     (skip-same-length t)
@@ -150,7 +150,7 @@ pub +skip-spec : {M : Type 1} → statement M
     (skip-enum-known-value t)
     (skip-sub-skip t)
     (skip-skip-requires t)
-    (skip-enum-known-out-2 t)
+    (skip-enum-known-out t)
     (skip-loop-less t)
     (skip-loop-again t)
     (skip-enum-told t)
