@@ -63,7 +63,7 @@ pub decimal-none : (s : List ℕ) (i end v : ℕ) → i < end → isDigit (byteA
 unfolding decimal
 decimal-none s i end v h e = rw (one-more i end h, e, decimal)
 
-digit-in : (s : List ℕ) (i end v : ℕ) → i < end → isDigit (byteAt s i) ≡ true → decimal (end - i) s i v ≡ decimal (end - (i + 1)) s (i + 1) (v * 10 + (byteAt s i - 48))
+pub digit-in : (s : List ℕ) (i end v : ℕ) → i < end → isDigit (byteAt s i) ≡ true → decimal (end - i) s i v ≡ decimal (end - (i + 1)) s (i + 1) (v * 10 + (byteAt s i - 48))
 unfolding decimal
 digit-in s i end v h e = rw (one-more i end h, e, decimal)
 
