@@ -7,6 +7,7 @@ pub mod Passing
 pub mod Skipping
 pub mod Judging
 pub mod Counting
+pub mod Striding
 pub mod Naming
 pub mod Walking
 pub mod Arrays

@@ -11,6 +11,7 @@ pub mod Processes
 pub mod Dcfg
 pub mod Order
 pub mod Private
+pub mod Strides
 pub mod Lent
 pub mod Rows
 pub mod Running

@@ -11,6 +11,7 @@ use crate::entries::opens;
 use crate::passed::Passed;
 use crate::passed::told;
 use crate::skip::skip;
+use crate::strides::stride;
 use json::Read;
 use json::bytes::byte;
 use json::integers::Int;
@@ -123,6 +124,7 @@ pub fn integers(text: &[u8], at: usize, keys: &mut [u32], top: usize) -> Passed
     let mut from = at;
     let mut n = top;
     loop {
+        from = stride(text, at, from, false);
         match member(text, at, from, keys, n) {
             Entry::Over(_, out) => {
                 return told(out);

@@ -25,6 +25,7 @@ mod repeats;
 mod row;
 mod running;
 mod skip;
+mod strides;
 mod table;
 mod threads;
 mod whole;

@@ -14,6 +14,7 @@ use crate::passed::Passed;
 use crate::passed::told;
 use crate::repeats::NONE;
 use crate::repeats::first_repeat;
+use crate::strides::stride;
 use json::Read;
 use json::bytes::byte;
 use json::plain::plain;
@@ -70,6 +71,7 @@ pub fn skip(text: &[u8], at: usize, left: u32, keys: &mut [u32], top: usize) -> 
     let mut from = at;
     let mut n = top;
     loop {
+        from = stride(text, at, from, true);
         match member(text, at, from, keys, n) {
             Entry::Over(m, out) => {
                 return settle(text, false, keys, top, m, told(out));
