@@ -1,6 +1,6 @@
 -- A number that is digits alone is read to its end, and is an integer where its digits are few. Assumes nothing.
 use Prim.Native.Nat.{ℕ, zero, suc, _+_, _-_, _*_, _≤_, _<_}
-use mathlib.Core.Path.{_≡_, sym, ap, _∙_}
+use mathlib.Core.Path.{_≡_, refl, sym, ap, _∙_}
 use mathlib.Core.Bool.{true, false}
 use mathlib.Core.List.{List}
 use native.Mathlib.Numerals.{add-one}
@@ -12,11 +12,14 @@ use lib.ListN.{length}
 use Rattle.json.specs.declared.Read.the-variants.{At}
 use Rattle.json.specs.declared.integers.Int.{Int}
 use Rattle.json.specs.declared.integers.Int.the-variants.{Is}
-use Rattle.json.specs.Bytes.{byteAt, within}
+use Rattle.json.specs.declared.integers.Natural.{Natural as Answer}
+use Rattle.json.specs.declared.integers.Natural.the-variants.{Is as IsNatural}
+use Rattle.json.specs.declared.integers.Whole.the-variants.{Is as IsWhole}
+use Rattle.json.specs.Bytes.{byteAt, within, either}
 use Rattle.json.specs.Numbers.{isDigit, more, digits, expo, frac, magnitude, numberAt}
 use Rattle.json.specs.Plain.{plainAt}
-use Rattle.json.specs.Integers.{decimal, integerOf}
-use Rattle.json.specs.Naturals.{Natural, Valued}
+use Rattle.json.specs.Integers.{decimal, integerOf, wholeAt}
+use Rattle.json.specs.Naturals.{Natural, Valued, Counted, NaturalIs}
 use Rattle.json.proofs.Tests.{within-both, digit-both}
 use Rattle.json.proofs.Steps.{more-step, more-stop}
 use Rattle.json.proofs.Sums.{digit-in, decimal-end}
@@ -27,9 +30,17 @@ more-to zero s k e l d z = let q : k ≡ e = omega arith in rw q (more-stop s e 
 more-to (suc n) s k e l d z = more-step s k (d k (omega arith) (omega arith)) ∙ more-to n s (k + 1) e (omega arith) (λ j a b. d j (omega arith) b) z
 
 -- Its digits.
+digit-is : (b : ℕ) → 48 ≤ b → b ≤ 57 → isDigit b ≡ true
+unfolding isDigit within
+digit-is b l h = rw (le-leb 48 b l, le-leb b 57 h)
+
 unfoldable pub tens : ℕ → ℕ
 tens zero = 1
 tens (suc m) = tens m * 10
+
+tens-one : tens 1 ≡ 10
+unfolding tens
+tens-one = refl
 
 pub tens-none : 0 < tens 0
 unfolding tens
@@ -65,8 +76,7 @@ module _ (s : List ℕ) (i e : ℕ) (n : Natural s i e) where
   other k h = ne-eqb (byteAt s i) k h
 
   first : isDigit (byteAt s i) ≡ true
-  unfolding isDigit within
-  first = rw (le-leb 48 (byteAt s i) (omega (arith, between)), le-leb (byteAt s i) 57 (omega (arith, between)))
+  first = digit-is (byteAt s i) (omega (arith, between)) (omega (arith, between))
 
   bare-frac : frac s e ≡ At e
   unfolding frac expo
@@ -101,3 +111,67 @@ module _ (s : List ℕ) (i e : ℕ) (n : Natural s i e) where
     where
       few : Number (decimal (e - i) s i 0)
       few = decimal-few (e - i) 0 s i e 0 (omega (arith, n .behind)) (omega arith) tens-none all
+
+  pub natural-integer : integerOf s i e ≡ decimal (e - i) s i 0
+  unfolding integerOf
+  natural-integer = rw (other 34 (λ q. omega (arith, between)), integerOf)
+
+-- Read so far as k, its digits make v.
+pub record Counting (s : List ℕ) (i v k : ℕ) : Type 0 where
+  pub leads : within 49 57 (byteAt s i) ≡ true
+  pub behind : i < k
+  pub few : k ≤ i + 18
+  pub digits : (j : ℕ) → i < j → j < k → isDigit (byteAt s j) ≡ true
+  pub small : v < tens (k - i)
+  pub value : (e : ℕ) → k ≤ e → decimal (e - i) s i 0 ≡ decimal (e - k) s k v
+
+module _ (s : List ℕ) (i b : ℕ) (w : b ≡ byteAt s i) (h : within 49 57 b ≡ true) where
+  range : (49 ≤ b) × (b ≤ 57)
+  range = within-both 49 57 b h
+
+  pub counting-first : Counting s i (b - 48) (i + 1)
+  counting-first = record {
+    leads = rw (← w) h;
+    behind = omega arith;
+    few = omega arith;
+    digits = λ j a b. absurd (omega arith);
+    small = rw (one-digit, tens-one) (omega (arith, range));
+    value = λ e l. digit-in s i e 0 (omega arith) (rw (← w) (digit-is b (omega (arith, range)) (omega (arith, range)))) ∙ ap (decimal (e - (i + 1)) s (i + 1)) (omega arith);
+  }
+    where
+      one-digit : i + 1 - i ≡ 1
+      one-digit = omega arith
+
+module _ (s : List ℕ) (i v k b : ℕ) (n : Counting s i v k) (w : b ≡ byteAt s k) where
+  pub counting-small : k < i + 18 → v < 100000000000000000
+  counting-small l = omega (arith, tens-more (k - i), tens-few (k - i + 1) (omega (arith, n .behind)), n .small)
+
+  pub counting-more : k < i + 18 → isDigit b ≡ true → Counting s i (v * 10 + (b - 48)) (k + 1)
+  counting-more l d = record {
+    leads = n .leads;
+    behind = omega (arith, n .behind);
+    few = omega arith;
+    digits = λ j x y. go j x y (decLt j k);
+    small = rw (ap tens more-by, tens-more) (omega (arith, digit-both b d, n .small));
+    value = λ e h. n .value e (omega arith) ∙ digit-in s k e v (omega arith) (rw (← w) d) ∙ rw w;
+  }
+    where
+      more-by : k + 1 - i ≡ k - i + 1
+      more-by = omega (arith, n .behind)
+
+      go : (j : ℕ) → i < j → j < k + 1 → Dec (j < k) → isDigit (byteAt s j) ≡ true
+      go j x y (yes z) = n .digits j x z
+      go j x y (no z) = let q : j ≡ k = omega arith in rw (q, ← w) d
+
+  pub counting-over : isDigit b ≡ false → eqb (byteAt s k) 46 ≡ false → either 101 69 (byteAt s k) ≡ false → Counted s i v k
+  counting-over d p x = record {
+    natural = record { leads = n .leads; behind = n .behind; digits = n .digits; ends = rw (← w) d; whole = p; bare = x };
+    value = n .value k (omega arith) ∙ sym (decimal-end s k k v (omega arith) (omega (arith, n .small, tens-few (k - i) (omega (arith, n .few)))));
+  }
+
+-- So it is the integer at i.
+pub natural-whole : (s : List ℕ) (i v e : ℕ) (r : Answer) → r ≡ IsNatural v e → NaturalIs s i r → IsWhole v e ≡ wholeAt s i
+unfolding wholeAt
+natural-whole s i v e r q a =
+    let n : Counted s i v e = rw q at a in
+    rw (natural-plain s i e (n .natural), natural-integer s i e (n .natural) ∙ n .value, wholeAt)

@@ -10,12 +10,17 @@ use Rattle.json.specs.declared.chars.Char.{Char}
 use Rattle.json.specs.declared.chars.Char.the-variants.{One, End, Bad}
 use Rattle.json.specs.declared.Read.{Read}
 use Rattle.json.specs.declared.Read.the-variants.{At, No}
+use Rattle.json.specs.declared.integers.Int.{Int}
+use Rattle.json.specs.declared.integers.Int.the-variants.{Is, Not}
+use Rattle.json.specs.declared.integers.Whole.{Whole}
+use Rattle.json.specs.declared.integers.Whole.the-variants.{No as NoWhole}
 use Rattle.json.specs.Bytes.{either, byteAt, isSpace, spaces, space}
 use Rattle.json.specs.Numbers.{more, isDigit, digits, then, expo, frac, magnitude, numberAt}
 use Rattle.json.specs.Strings.{closed, stringAt}
 use Rattle.json.specs.Chars.{charAt}
 use Rattle.json.specs.Plain.{letter, word, plainAt}
-use Rattle.json.specs.Bounds.{ReadIn}
+use Rattle.json.specs.Integers.{integerOf, wholeOf, wholeAt}
+use Rattle.json.specs.Bounds.{ReadIn, WholeIn}
 use Rattle.json.proofs.Tests.{both, told, inside-by}
 use Rattle.json.proofs.CharEnds.{CharTo, char-to}
 use Rattle.json.proofs.Steps.{not-space, not-digit}
@@ -126,3 +131,15 @@ string-in s i r e = (e, rw e (read-in (i + 1) (length s) (stringAt s i) (string-
 
 pub plain-in : (s : List ℕ) (i : ℕ) (r : Read) → r ≡ plainAt s i → (r ≡ plainAt s i) × ReadIn i (length s) r
 plain-in s i r e = (e, rw e (read-in i (length s) (plainAt s i) (plain-to s i)))
+
+whole-to : (low high n : ℕ) (v : Int) → low < n → n ≤ high → WholeIn low high (wholeOf n v)
+whole-to low high n (Is v) l h = (l, h)
+whole-to low high n Not l h = (l, h)
+
+pub whole-in : (s : List ℕ) (i : ℕ) (r : Whole) → r ≡ wholeAt s i → (r ≡ wholeAt s i) × WholeIn i (length s) r
+unfolding wholeAt
+whole-in s i r e = (e, rw e (go (plainAt s i) (plain-to s i)))
+  where
+    go : (x : Read) → ReadTo (i + 1) (length s) x → WholeIn i (length s) (elim x [ At n ↦ wholeOf n (integerOf s i n) | No p ↦ NoWhole p ])
+    go (At n) h = whole-to i (length s) n (integerOf s i n) (omega arith) (h .1)
+    go (No p) h = h

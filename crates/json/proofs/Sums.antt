@@ -9,10 +9,15 @@ use borrow.Author.Tests.{ltb-false, lt-ltb, le-ltb}
 use lib.Dec.{eqb, ltb}
 use Rattle.json.specs.declared.integers.Int.{Int}
 use Rattle.json.specs.declared.integers.Int.the-variants.{Is, Not}
+use Rattle.json.specs.declared.integers.Whole.{Whole}
+use Rattle.json.specs.declared.integers.Whole.the-variants.{Is as IsWhole, Not as NotWhole, No as NoWhole}
+use Rattle.json.specs.declared.Read.{Read}
+use Rattle.json.specs.declared.Read.the-variants.{At, No}
 use Rattle.json.specs.Bytes.{byteAt}
 use Rattle.json.specs.Escapes.{hexOf}
 use Rattle.json.specs.Numbers.{isDigit}
-use Rattle.json.specs.Integers.{small, decimal, hexadecimal, hexStep}
+use Rattle.json.specs.Plain.{plainAt}
+use Rattle.json.specs.Integers.{small, decimal, hexadecimal, integerOf, wholeOf, wholeAt, orZero, idOf, hexStep}
 use Rattle.json.proofs.Tests.{clash, both}
 
 pub small-is : (v : ℕ) → v < 18446744073709551616 → small v ≡ Is v
@@ -101,3 +106,21 @@ hex-not c cs v q = go (eqb (hexOf c) 16) q
 pub hex-end : (cs : List ℕ) (v : ℕ) → cs ≡ [] → v < 18446744073709551616 → hexadecimal cs v ≡ Is v
 unfolding hexadecimal
 hex-end cs v e l = rw e (small-is v l)
+
+-- The number of an integer.
+abbrev pub numberOf : Whole → ℕ
+numberOf (IsWhole v n) = v
+numberOf (NotWhole n) = 0
+numberOf (NoWhole p) = 0
+
+pub whole-id : (s : List ℕ) (i : ℕ) → numberOf (wholeAt s i) ≡ idOf s i
+unfolding wholeAt idOf
+whole-id s i = go (plainAt s i)
+  where
+    number : (n : ℕ) (v : Int) → numberOf (wholeOf n v) ≡ orZero v
+    number n (Is v) = refl
+    number n Not = refl
+
+    go : (r : Read) → _≡_ {A = ℕ} (numberOf (elim r [ At n ↦ wholeOf n (integerOf s i n) | No p ↦ NoWhole p ])) (elim r [ At k ↦ orZero (integerOf s i k) | No p ↦ 0 ])
+    go (At n) = number n (integerOf s i n)
+    go (No p) = refl

@@ -6,6 +6,8 @@ use mathlib.Core.List.{List, [], _∷_}
 use lib.Dec.{eqb, ltb}
 use Rattle.json.specs.declared.integers.Int.{Int}
 use Rattle.json.specs.declared.integers.Int.the-variants.{Is, Not}
+use Rattle.json.specs.declared.integers.Whole.{Whole}
+use Rattle.json.specs.declared.integers.Whole.the-variants.{Is as IsWhole, Not as NotWhole, No as NoWhole}
 use Rattle.json.specs.declared.Read.the-variants.{At, No}
 use Rattle.json.specs.Bytes.{byteAt}
 use Rattle.json.specs.Escapes.{hexOf}
@@ -44,6 +46,15 @@ prefixed cs = expect 48 (expect 120 someDigits) cs
 -- Of the plain value from i to end: a string by its characters, anything else by its digits.
 unfoldable pub integerOf : List ℕ → ℕ → ℕ → Int
 integerOf s i end = elim (eqb (byteAt s i) 34) [ true ↦ prefixed (nameAt s i) | false ↦ decimal (end - i) s i 0 ]
+
+-- It ends before n.
+abbrev pub wholeOf : ℕ → Int → Whole
+wholeOf n (Is v) = IsWhole v n
+wholeOf n Not = NotWhole n
+
+-- The plain value at i, and the place behind it.
+unfoldable pub wholeAt : List ℕ → ℕ → Whole
+wholeAt s i = elim (plainAt s i) [ At n ↦ wholeOf n (integerOf s i n) | No p ↦ NoWhole p ]
 
 abbrev pub orZero : Int → ℕ
 orZero (Is v) = v

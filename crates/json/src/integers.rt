@@ -1,11 +1,16 @@
 // Integers: unsigned JSON numbers or "0x" strings.
 ghost use mathlib.Core.Path.{_≡_};
 ghost use Prim.Native.Nat.{_+_, _-_, _*_, _≤_, _<_};
+ghost use lib.ListN.{length};
+ghost use Rattle.json.specs.Bounds.{WholeIn};
 ghost use Rattle.json.specs.Chars.{charsAt};
 ghost use Rattle.json.specs.Integers as spec;
+ghost use Rattle.json.specs.Naturals.{NaturalIs};
 use crate::Read;
 use crate::bytes::byte;
 use crate::bytes::code;
+use crate::bytes::either;
+use crate::bytes::within;
 use crate::chars::Char;
 use crate::chars::char_at;
 use crate::escapes::hex_digit;
@@ -15,6 +20,19 @@ use crate::plain::plain;
 pub enum Int {
     Is(u64),
     Not,
+}
+
+// An integer and the place behind it; the place behind a plain value that is none; or the place where no JSON goes on.
+pub enum Whole {
+    Is(u64, usize),
+    Not(usize),
+    No(usize),
+}
+
+// A number that is digits alone, fewer than 18 of them, and the place behind it.
+enum Natural {
+    Is(u64, usize),
+    Other,
 }
 
 fn grown(value: u64, base: u64, digit: u64) -> Int
@@ -135,7 +153,7 @@ fn prefixed(text: &[u8], at: usize) -> Int
     }
 }
 
-pub fn integer(text: &[u8], at: usize, end: usize) -> Int
+fn integer(text: &[u8], at: usize, end: usize) -> Int
     ensures { λ r. ⌜ r ≡ spec.integerOf (now (text .entry)) at end ⌝ }
 {
     if byte(text, at) == b'"' {
@@ -145,14 +163,61 @@ pub fn integer(text: &[u8], at: usize, end: usize) -> Int
     }
 }
 
+fn any(text: &[u8], at: usize) -> Whole
+    ensures { λ r. ⌜ r ≡ spec.wholeAt (now (text .entry)) at ⌝ }
+{
+    match plain(text, at) {
+        Read::At(next) => match integer(text, at, next) {
+            Int::Is(value) => Whole::Is(value, next),
+            Int::Not => Whole::Not(next),
+        },
+        Read::No(place) => Whole::No(place),
+    }
+}
+
+// Most integers: read once, where `plain` and `integer` read twice.
+fn natural_at(text: &[u8], at: usize) -> Natural
+    ensures { λ r. ⌜ NaturalIs (now (text .entry)) at r ⌝ }
+{
+    let first = code(text, at);
+    if !within(49, 57, first) {
+        return Natural::Other;
+    }
+    let mut value = (first - 48) as u64;
+    let mut end = at + 1;
+    while end - at < 18 {
+        let b = code(text, end);
+        if !is_digit(b) {
+            if byte(text, end) == b'.' {
+                return Natural::Other;
+            }
+            if either(b'e', b'E', byte(text, end)) {
+                return Natural::Other;
+            }
+            return Natural::Is(value, end);
+        }
+        let digit = (b - 48) as u64;
+        value = value * 10 + digit;
+        end += 1;
+    }
+    Natural::Other
+}
+
+pub fn whole_at(text: &[u8], at: usize) -> Whole
+    ensures { λ r. ⌜ (r ≡ spec.wholeAt (now (text .entry)) at) × WholeIn at (length (now (text .entry))) r ⌝ }
+{
+    match natural_at(text, at) {
+        Natural::Is(value, next) => Whole::Is(value, next),
+        Natural::Other => any(text, at),
+    }
+}
+
 pub fn id_at(text: &[u8], at: usize) -> u64
     ensures { λ r. ⌜ r ≡ spec.idOf (now (text .entry)) at ⌝ }
 {
-    match plain(text, at) {
-        Read::At(end) => match integer(text, at, end) {
-            Int::Is(value) => value,
-            Int::Not => 0,
-        },
-        Read::No(_) => 0,
+    match whole_at(text, at) {
+        Whole::Is(value, _) => value,
+        Whole::Not(_) => 0,
+        Whole::No(_) => 0,
     }
 }
