@@ -12,11 +12,13 @@ use Rattle.json.specs.declared.Read.{Read}
 use Rattle.json.specs.declared.Read.the-variants.{At, No}
 use Rattle.json.specs.declared.integers.Int.{Int}
 use Rattle.json.specs.declared.integers.Int.the-variants.{Is as IsInt, Not as NotInt}
+use Rattle.json.specs.declared.integers.Whole.{Whole}
+use Rattle.json.specs.declared.integers.Whole.the-variants.{Is as IsWhole, Not as NotWhole, No as NoWhole}
 use Rattle.json.specs.Bytes.{byteAt, within}
 use Rattle.json.specs.Strings.{stringAt}
 use Rattle.json.specs.Plain.{plainAt}
-use Rattle.json.specs.Integers.{integerOf}
-use Rattle.json.specs.Bounds.{ReadIn}
+use Rattle.json.specs.Integers.{integerOf, wholeOf, wholeAt}
+use Rattle.json.specs.Bounds.{ReadIn, WholeIn}
 use Rattle.json.proofs.Tests.{both, clash}
 use Rattle.json.proofs.Places.{string-in, plain-in}
 use Rattle.dcfg.specs.declared.passed.Passed.{Passed}
@@ -110,9 +112,30 @@ pub integer-opens : (s : List ℕ) (i : ℕ) → opens (byteAt s i) ≡ true →
 unfolding anInteger
 integer-opens s i e = rw (e, anInteger)
 
-pub integer-plain : (s : List ℕ) (i : ℕ) → opens (byteAt s i) ≡ false → judged s i (plainAt s i) ≡ anInteger s i
+-- A plain value, by the integer that is read of it.
+abbrev pub wholeStep : Whole → Step ℕ
+wholeStep (IsWhole v n) = go n v
+wholeStep (NotWhole n) = halt 34 (n - 1) 0
+wholeStep (NoWhole p) = halt 31 p 0
+
+pub whole-past : (low high n : ℕ) (r : Whole) → r ≡ NotWhole n → WholeIn low high r → 0 < n
+whole-past low high n r e h = let b : (low < n) × (n ≤ high) = rw e at h in omega arith
+
+judged-whole : (s : List ℕ) (i : ℕ) → wholeStep (wholeAt s i) ≡ judged s i (plainAt s i)
+unfolding wholeAt
+judged-whole s i = go-on (plainAt s i)
+  where
+    told : (n : ℕ) (v : Int) → wholeStep (wholeOf n v) ≡ integral n v
+    told n (IsInt v) = refl
+    told n NotInt = refl
+
+    go-on : (r : Read) → _≡_ {A = Step ℕ} (wholeStep (elim r [ At n ↦ wholeOf n (integerOf s i n) | No p ↦ NoWhole p ])) (judged s i r)
+    go-on (At n) = told n (integerOf s i n)
+    go-on (No p) = refl
+
+pub integer-whole : (s : List ℕ) (i : ℕ) → opens (byteAt s i) ≡ false → wholeStep (wholeAt s i) ≡ anInteger s i
 unfolding anInteger
-integer-plain s i e = rw (e, anInteger)
+integer-whole s i e = judged-whole s i ∙ rw (e, anInteger)
 
 pub range-low : (n v : ℕ) → v < 1 → halt 35 (n - 1) 0 ≡ inRange n v
 unfolding inRange within

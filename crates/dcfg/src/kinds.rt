@@ -1,8 +1,7 @@
 // What kind a value is of: it is read as what is wanted, or it is refused at its last byte.
 ghost use mathlib.Core.Path.{_≡_};
 ghost use Prim.Native.Nat.{_<_};
-ghost use lib.ListN.{length, take};
-ghost use Rattle.json.specs.Bounds.{ReadIn};
+ghost use lib.ListN.{take};
 ghost use Rattle.dcfg.specs.Kinds as spec;
 ghost use Rattle.dcfg.specs.Private.{stepOf, integerStepOf, Room};
 use crate::entries::Entry;
@@ -12,11 +11,9 @@ use crate::passed::Passed;
 use crate::passed::told;
 use crate::skip::skip;
 use crate::strides::stride;
-use json::Read;
 use json::bytes::byte;
-use json::integers::Int;
-use json::integers::integer;
-use json::plain::plain;
+use json::integers::Whole;
+use json::integers::whole_at;
 use json::strings::string;
 use refusal::Refusal;
 
@@ -52,22 +49,6 @@ pub fn a_string(text: &[u8], at: usize, keys: &mut [u32], top: usize) -> Passed
     wrong(text, at, keys, top)
 }
 
-fn judged(text: &[u8], at: usize, read: Read) -> Got
-    requires { ⌜ ReadIn at (length (now text)) read ⌝ }
-    ensures { λ r. ⌜ integerStepOf r ≡ spec.judged (now (text .entry)) at read ⌝ }
-{
-    match read {
-        Read::At(next) => match integer(text, at, next) {
-            Int::Is(value) => Got::Is(value, next),
-            Int::Not => {
-                let last = next - 1;
-                Got::Not(Refusal::WrongKind, last)
-            }
-        },
-        Read::No(place) => Got::Not(Refusal::NotJson, place),
-    }
-}
-
 pub fn none_of(out: Passed) -> Got
     ensures { λ r. ⌜ integerStepOf r ≡ spec.noting 0 (stepOf out) ⌝ }
 {
@@ -84,7 +65,14 @@ pub fn an_integer(text: &[u8], at: usize, keys: &mut [u32], top: usize) -> Got
     if opens(byte(text, at)) {
         return none_of(wrong(text, at, keys, top));
     }
-    judged(text, at, plain(text, at))
+    match whole_at(text, at) {
+        Whole::Is(value, next) => Got::Is(value, next),
+        Whole::Not(next) => {
+            let last = next - 1;
+            Got::Not(Refusal::WrongKind, last)
+        }
+        Whole::No(place) => Got::Not(Refusal::NotJson, place),
+    }
 }
 
 fn in_range(value: u64, next: usize) -> Got

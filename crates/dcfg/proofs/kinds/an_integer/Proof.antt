@@ -1,8 +1,9 @@
--- `dcfg::kinds::an_integer` meets its contract: by the first byte. Assumes nothing.
+-- `dcfg::kinds::an_integer` meets its contract: by the first byte, then by what is read. Assumes nothing.
 use mathlib.Core.Path.{refl, sym, ap, _∙_}
+use native.Mathlib.Omega.{arith}
 use Rattle.dcfg.specs.Entries.{opens}
-use Rattle.dcfg.specs.Kinds.{noting, judged}
-use Rattle.dcfg.proofs.Judging.{integer-opens, integer-plain}
+use Rattle.dcfg.specs.Kinds.{noting}
+use Rattle.dcfg.proofs.Judging.{wholeStep, whole-past, integer-opens, integer-whole}
 use borrow.Author.Needs.{needs}
 use Rattle.dcfg.proofs.kinds.an_integer.Statement.{statement}
 use Rattle.dcfg.proofs.kinds.an_integer.Tie as tie
@@ -25,14 +26,29 @@ same-length c = search needs
 returns : tie.Need-returns
 returns c = (c .none-of .ensures ∙ ap (noting 0) (c .before .before .before .wrong .ensures .0) ∙ integer-opens _ _ (ap opens (sym (c .before .before .before .before .before .before .before .byte .ensures)) ∙ sym (c .before .before .before .before .before .before .opens .ensures) ∙ c .before .before .before .before .before .if1 .taken), c .before .before .before .wrong .ensures .1)
 
-plain-requires : tie.Need-plain-requires
-plain-requires c κs = search needs
+whole-at-requires : tie.Need-whole-at-requires
+whole-at-requires c κs = search needs
 
-judged-requires : tie.Need-judged-requires
-judged-requires c κs = search needs
+enum-known-value : tie.Need-enum-known-value
+enum-known-value c = search needs
+
+enum-known-next : tie.Need-enum-known-next
+enum-known-next c = search needs
+
+sub-last : tie.Need-sub-last
+sub-last c = omega (arith, whole-past _ _ _ _ (c .before .next .given .1) (c .before .before .before .whole-at .ensures .1))
+
+enum-known-place : tie.Need-enum-known-place
+enum-known-place c = search needs
 
 returns-2 : tie.Need-returns-2
-returns-2 c = (c .judged .ensures ∙ ap (judged _ _) (c .before .plain .ensures .0) ∙ integer-plain _ _ (ap opens (sym (c .before .before .before .before .byte .ensures)) ∙ sym (c .before .before .before .opens .ensures) ∙ c .before .before .if1 .left), refl)
+returns-2 c = (ap wholeStep (sym (c .before .value .given .1) ∙ c .before .before .before .whole-at .ensures .0) ∙ integer-whole _ _ (ap opens (sym (c .before .before .before .before .before .before .byte .ensures)) ∙ sym (c .before .before .before .before .before .opens .ensures) ∙ c .before .before .before .before .if1 .left), refl)
+
+returns-3 : tie.Need-returns-3
+returns-3 c = (ap wholeStep (sym (c .before .next .given .1) ∙ c .before .before .before .whole-at .ensures .0) ∙ integer-whole _ _ (ap opens (sym (c .before .before .before .before .before .before .byte .ensures)) ∙ sym (c .before .before .before .before .before .opens .ensures) ∙ c .before .before .before .before .if1 .left), refl)
+
+returns-4 : tie.Need-returns-4
+returns-4 c = (ap wholeStep (sym (c .before .place .given .1) ∙ c .before .before .before .whole-at .ensures .0) ∙ integer-whole _ _ (ap opens (sym (c .before .before .before .before .before .before .byte .ensures)) ∙ sym (c .before .before .before .before .before .opens .ensures) ∙ c .before .before .before .before .if1 .left), refl)
 
 pub an-integer-spec : {M : Type 1} → statement M
 an-integer-spec =
@@ -44,6 +60,11 @@ an-integer-spec =
     none-of-requires
     same-length
     returns
-    plain-requires
-    judged-requires
-    returns-2)
+    whole-at-requires
+    enum-known-value
+    enum-known-next
+    sub-last
+    enum-known-place
+    returns-2
+    returns-3
+    returns-4)
