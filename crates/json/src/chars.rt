@@ -3,7 +3,10 @@ ghost use mathlib.Core.Path.{_≡_};
 ghost use lib.ListN.{length};
 ghost use Rattle.json.specs.Bounds.{CharIn};
 ghost use Rattle.json.specs.Chars as spec;
+ghost use Rattle.json.specs.Letters.{isLetter};
 use crate::bytes::code;
+use crate::bytes::either;
+use crate::bytes::within;
 use crate::escapes::escape;
 use crate::utf8::utf8;
 
@@ -11,6 +14,17 @@ pub enum Char {
     One(u32, usize),
     End(usize),
     Bad(usize),
+}
+
+// Whether it stands for itself, and takes one byte.
+pub fn is_letter(b: u8) -> bool
+    ensures { λ r. ⌜ r ≡ isLetter b ⌝ }
+{
+    if within(32, 127, b as u32) {
+        !either(34, 92, b)
+    } else {
+        false
+    }
 }
 
 pub fn char_at(text: &[u8], at: usize) -> Char
