@@ -133,9 +133,12 @@ judged-whole s i = go-on (plainAt s i)
     go-on (At n) = told n (integerOf s i n)
     go-on (No p) = refl
 
-pub integer-whole : (s : List ℕ) (i : ℕ) → opens (byteAt s i) ≡ false → wholeStep (wholeAt s i) ≡ anInteger s i
+pub integer-plain : (s : List ℕ) (i : ℕ) → opens (byteAt s i) ≡ false → judged s i (plainAt s i) ≡ anInteger s i
 unfolding anInteger
-integer-whole s i e = judged-whole s i ∙ rw (e, anInteger)
+integer-plain s i e = rw (e, anInteger)
+
+pub integer-whole : (s : List ℕ) (i : ℕ) → opens (byteAt s i) ≡ false → wholeStep (wholeAt s i) ≡ anInteger s i
+integer-whole s i e = judged-whole s i ∙ integer-plain s i e
 
 pub range-low : (n v : ℕ) → v < 1 → halt 35 (n - 1) 0 ≡ inRange n v
 unfolding inRange within

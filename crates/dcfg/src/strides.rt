@@ -14,6 +14,7 @@ use json::bytes::code;
 use json::bytes::either;
 use json::bytes::space;
 use json::bytes::within;
+use json::chars::is_letter;
 
 const MOST_DIGITS: usize = 18;
 
@@ -27,16 +28,6 @@ fn digits(text: &[u8], from: usize) -> usize
         at += 1;
     }
     at
-}
-
-fn is_letter(b: u8) -> bool
-    ensures { λ r. ⌜ r ≡ isLetter b ⌝ }
-{
-    if within(32, 127, b as u32) {
-        !either(34, 92, b)
-    } else {
-        false
-    }
 }
 
 // Behind the letters that stand here.
