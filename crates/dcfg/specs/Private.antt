@@ -7,6 +7,8 @@ use lib.ListN.{length, getD, set, take, drop}
 use Rattle.json.specs.declared.Read.{Read}
 use Rattle.json.specs.declared.Read.the-variants.{At, No}
 use Rattle.json.specs.Bounds.{ReadIn}
+use Rattle.json.specs.Chars.{charsAt}
+use Rattle.dcfg.specs.Order.{ordered}
 use Rattle.dcfg.specs.declared.items.Piece.{Piece}
 use Rattle.dcfg.specs.declared.items.Piece.the-variants.{Close, Next as Item, Stray}
 use Rattle.dcfg.specs.declared.entries.Entry.{Entry}
@@ -80,6 +82,12 @@ EntryIn low high n (Over m out) = (n ≤ m) × (3 * m ≤ high) × ReadIn low hi
 -- A place at which a key stands.
 unfoldable pub Place : List ℕ → ℕ → Type 0
 Place s p = p < length s
+
+-- The names at a and b stand to each other as what follows their first n bytes.
+pub record Alike (s : List ℕ) (a b n : ℕ) : Type 0 where
+  pub rests : ordered (charsAt s (a + n)) (charsAt s (b + n)) ≡ ordered (charsAt s a) (charsAt s b)
+  pub first : a + n < 18446744073709551616
+  pub second : b + n < 18446744073709551616
 
 -- The number that stands for no place.
 abbrev pub noPlace : ℕ

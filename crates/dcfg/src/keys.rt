@@ -1,13 +1,15 @@
 // Two places of a text compared: names by their decoded characters, or ids by their numbers.
 ghost use mathlib.Core.Path.{_≡_};
 ghost use mathlib.Core.List.{[], _∷_};
+ghost use Prim.Native.Nat.{_≤_};
 ghost use Rattle.json.specs.Chars.{charsAt};
 ghost use Rattle.dcfg.specs.Repeated.{keyAt};
 ghost use Rattle.sorting.specs.Order.{Ordered};
 ghost use Rattle.dcfg.specs.Order.{ordered};
-ghost use Rattle.dcfg.specs.Private.{Place};
+ghost use Rattle.dcfg.specs.Private.{Place, Alike};
 use json::chars::Char;
 use json::chars::char_at;
+use json::chars::is_letter;
 use json::integers::id_at;
 
 pub enum Order {
@@ -26,11 +28,43 @@ fn ended(text: &[u8], j: usize) -> Order
     }
 }
 
+fn later(a: usize, b: usize) -> usize
+    ensures { λ r. ⌜ (a ≤ r) × (b ≤ r) ⌝ }
+{
+    if a < b { b } else { a }
+}
+
+// How many characters are alike that are a byte each: most of a name, and nothing is decoded.
+fn alike(text: &[u8], a: usize, b: usize) -> usize
+    ensures { λ r. ⌜ Alike (now (text .entry)) a b r ⌝ }
+{
+    let far = later(a, b);
+    if text.len() < far {
+        return 0;
+    }
+    let most = text.len() - far;
+    let mut n = 0;
+    while n < most {
+        let i = a + n;
+        let j = b + n;
+        let x = text[i];
+        if x != text[j] {
+            return n;
+        }
+        if !is_letter(x) {
+            return n;
+        }
+        n += 1;
+    }
+    n
+}
+
 fn names(text: &[u8], a: usize, b: usize) -> Order
     ensures { λ r. ⌜ r ≡ ordered (charsAt (now (text .entry)) a) (charsAt (now (text .entry)) b) ⌝ }
 {
-    let mut i = a;
-    let mut j = b;
+    let n = alike(text, a, b);
+    let mut i = a + n;
+    let mut j = b + n;
     loop {
         match char_at(text, i) {
             Char::One(x, next) => match char_at(text, j) {

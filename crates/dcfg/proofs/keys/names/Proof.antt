@@ -1,6 +1,6 @@
 -- `dcfg::keys::names` meets its contract: the loop keeps how the rests stand to each other. Assumes nothing.
 use borrow.Author.Needs.{needs}
-use mathlib.Core.Path.{_≡_, refl, sym, ap, _∙_}
+use mathlib.Core.Path.{_≡_, sym, ap, _∙_}
 use native.Mathlib.Omega.{arith}
 use Rattle.dcfg.specs.Order.{ordered}
 use Rattle.dcfg.proofs.Orders.{less, more, alike, longer}
@@ -13,13 +13,22 @@ use Rattle.dcfg.proofs.keys.names.Statement.{statement}
 use Rattle.dcfg.proofs.keys.names.Tie as tie
 
 abbrev Inv-loop : tie.InvT-loop
-Inv-loop text a b i₀ j₀ i j = ordered (charsAt text i) (charsAt text j) ≡ ordered (charsAt text a) (charsAt text b)
+Inv-loop text a b n i₀ j₀ i j = ordered (charsAt text i) (charsAt text j) ≡ ordered (charsAt text a) (charsAt text b)
 
 abbrev μ-loop : tie.MeasureT-loop
-μ-loop text a b i₀ j₀ i j = length text - i
+μ-loop text a b n i₀ j₀ i j = length text - i
+
+alike-requires : tie.Need-alike-requires Inv-loop μ-loop
+alike-requires c κs = search needs
+
+add-i : tie.Need-add-i Inv-loop μ-loop
+add-i c = omega (arith, c .alike .ensures .first)
+
+add-j : tie.Need-add-j Inv-loop μ-loop
+add-j c = omega (arith, c .alike .ensures .second)
 
 loop-holds : tie.Need-loop-holds Inv-loop μ-loop
-loop-holds c = refl
+loop-holds c = c .alike .ensures .rests
 
 char-at-requires : tie.Need-char-at-requires Inv-loop μ-loop
 char-at-requires c κs = search needs
@@ -64,7 +73,7 @@ ended-requires : tie.Need-ended-requires Inv-loop μ-loop
 ended-requires c κs = search needs
 
 returns-5 : tie.Need-returns-5 Inv-loop μ-loop
-returns-5 c = c .ended .ensures ∙ sym (ap (λ l. ordered l (charsAt (c .before .before .before .before .before .before .args .text .now) (c .before .before .before .before .loop .j))) (chars-end _ _ _ (sym (c .before .before .before .char-at .ensures .0) ∙ c .before .enum-told3 .given .1))) ∙ c .before .before .before .before .loop .inv
+returns-5 c = c .ended .ensures ∙ sym (ap (λ l. ordered l (charsAt (c .before .before .before .before .before .before .before .args .text .now) (c .before .before .before .before .loop .j))) (chars-end _ _ _ (sym (c .before .before .before .char-at .ensures .0) ∙ c .before .enum-told3 .given .1))) ∙ c .before .before .before .before .loop .inv
 
 enum-told-4 : tie.Need-enum-told-4 Inv-loop μ-loop
 enum-told-4 c = search needs
@@ -73,7 +82,7 @@ ended-requires-2 : tie.Need-ended-requires-2 Inv-loop μ-loop
 ended-requires-2 c κs = search needs
 
 returns-6 : tie.Need-returns-6 Inv-loop μ-loop
-returns-6 c = c .ended2 .ensures ∙ sym (ap (λ l. ordered l (charsAt (c .before .before .before .before .before .before .args .text .now) (c .before .before .before .before .loop .j))) (chars-bad _ _ _ (sym (c .before .before .before .char-at .ensures .0) ∙ c .before .enum-told4 .given .1))) ∙ c .before .before .before .before .loop .inv
+returns-6 c = c .ended2 .ensures ∙ sym (ap (λ l. ordered l (charsAt (c .before .before .before .before .before .before .before .args .text .now) (c .before .before .before .before .loop .j))) (chars-bad _ _ _ (sym (c .before .before .before .char-at .ensures .0) ∙ c .before .enum-told4 .given .1))) ∙ c .before .before .before .before .loop .inv
 
 pub names-spec : {M : Type 1} → statement M
 names-spec =
@@ -81,6 +90,9 @@ names-spec =
     (tie.spec
     Inv-loop
     μ-loop
+    alike-requires
+    add-i
+    add-j
     loop-holds
     char-at-requires
     enum-known-x
