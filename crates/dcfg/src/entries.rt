@@ -12,6 +12,8 @@ use json::Read;
 use json::bytes::byte;
 use json::strings::string;
 
+// The place of a value, and how many keys are kept then; or how many are, and how it ended. A value's place stands beside a number:
+// beside the tag of a `Read` it would be stored in parts, and each load of it wait.
 pub enum Entry {
     Value(usize, usize),
     Over(usize, Read),

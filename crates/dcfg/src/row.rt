@@ -75,7 +75,7 @@ fn chosen(k: usize, i: usize, value: u64, old: u64) -> u64
     if k == i { value } else { old }
 }
 
-// A store at k would go through memory, and the copy of the cells would wait for it. So each cell is chosen.
+// Each cell is chosen: a store at k would go through memory, and the next copy of the cells would wait for it.
 fn with_cell(cells: Cells, k: usize, value: u64) -> Cells
     requires { ⌜ (cells .had < 0x100000000) × (length (cells .values) ≡ 5) ⌝ }
     ensures { λ r. ⌜ (r .had ≡ elim (ltb k 5) [ true ↦ cells .had + 1 | false ↦ cells .had ]) × (r .values ≡ elim (ltb k 5) [ true ↦ set (cells .values) k value | false ↦ cells .values ]) ⌝ }
