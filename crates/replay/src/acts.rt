@@ -23,22 +23,16 @@ use crate::usual::usual;
 use fdr::record::Record;
 use refusal::Refusal;
 
-// A call is opened, in a row and at a clock, with so many rows then; the calls down to a depth are closed; either of these
-// is done, with a call stored at a place, which for an exit is the one that stood there; or the record is refused.
+// A call in a row and at a clock is stored on top of the open ones, with so many rows and open calls then: that of an exit
+// lies above these, where nothing is read. Or the calls down to a depth are closed, or the record is refused.
 pub enum Act {
     Push {
         row: u16,
         rows: usize,
-        clock: u64,
-    },
-    Pop {
         depth: usize,
         clock: u64,
     },
-    Move {
-        place: usize,
-        row: u16,
-        since: u64,
+    Pop {
         depth: usize,
         clock: u64,
     },
@@ -113,6 +107,7 @@ fn enter(
         return Act::Push {
             row: r as u16,
             rows,
+            depth: depth + 1,
             clock,
         };
     }
@@ -124,6 +119,7 @@ fn enter(
     Act::Push {
         row: r as u16,
         rows: rows + 1,
+        depth: depth + 1,
         clock,
     }
 }
@@ -192,7 +188,7 @@ pub fn call<'a>(
         let leaves = ((action + 1) / 2 % 2) as u64;
         let r = cached(cache, id);
         if usual(table, row, since, depth, rows, leaves, r, id, now) {
-            return settle(table, since, depth, leaves, r, now);
+            return settle(table, since, depth, rows, leaves, r, now);
         }
     }
     if enters(action) {

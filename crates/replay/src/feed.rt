@@ -6,11 +6,12 @@ ghost use lib.ListN.{length, take, drop};
 ghost use Rattle.replay.specs.Row.{cells};
 ghost use Rattle.replay.specs.State.{viewed, stateSound, tableSound, Advanced};
 ghost use Rattle.replay.specs.Stream.{heading, fed};
-ghost use Rattle.replay.specs.Packing.{Readable, toCome, callsOf, Enters, packed, Within, Behind, Headable};
+ghost use Rattle.replay.specs.Packing.{Readable, toCome, callsOf, countsIn, Enters, packed, Within, Behind, Headable};
 use crate::Answer;
 use crate::acts::Act;
 use crate::acts::call;
 use crate::calls::Calls;
+use crate::calls::Counts;
 use crate::reads::Sight;
 use crate::reads::Way;
 use crate::reads::fill;
@@ -77,6 +78,13 @@ fn calls_of(x: Stream) -> Calls
         since,
         depth: x.depth,
         clock: x.clock,
+    }
+}
+
+fn counts_of(x: Stream) -> Counts
+    ensures { λ r. ⌜ r ≡ countsIn x ⌝ }
+{
+    Counts {
         rows: x.rows,
         records: x.records,
         buffers: x.buffers,
@@ -86,6 +94,7 @@ fn calls_of(x: Stream) -> Calls
 // The state behind a read.
 fn pack(
     calls: Calls,
+    counts: Counts,
     held: [u8; 32],
     index: [u16; 1024],
     cache: [u16; 4096],
@@ -93,7 +102,7 @@ fn pack(
     offset: u64,
     answer: Answer,
 ) -> Stream
-    ensures { λ r. ⌜ r ≡ packed calls held index cache way offset answer ⌝ }
+    ensures { λ r. ⌜ r ≡ packed calls counts held index cache way offset answer ⌝ }
 {
     let at = way.at;
     let form = at.form;
@@ -114,9 +123,9 @@ fn pack(
         since,
         depth: calls.depth,
         clock: calls.clock,
-        rows: calls.rows,
-        records: calls.records,
-        buffers: calls.buffers,
+        rows: counts.rows,
+        records: counts.records,
+        buffers: counts.buffers,
         index,
         cache,
         over: false,
@@ -124,7 +133,7 @@ fn pack(
     }
 }
 
-// Record by record, from a place of the read on. As in a whole replay the store of a new call stands here.
+// Record by record, from a place of the read on. As in a whole replay the store of a call stands here.
 pub fn records(x: Stream, read: &[u8], from: usize, table: &mut [u64]) -> Fed
     requires { ⌜ Readable x (now read) from × (cells ≤ length (now table)) × (tableSound x (now table) ≡ true) ⌝ }
     ensures { λ r. ⌜ Advanced (fed (viewed x (now (table .entry))) (drop from (now (read .entry)))) (now (table .entry)) r (now (table .exit)) ⌝ }
@@ -135,6 +144,7 @@ pub fn records(x: Stream, read: &[u8], from: usize, table: &mut [u64]) -> Fed
     let form = x.form;
     let answer = x.answer;
     let mut calls = calls_of(x);
+    let mut counts = counts_of(x);
     let mut held = x.held;
     let mut index = x.index;
     let mut cache = x.cache;
@@ -144,7 +154,7 @@ pub fn records(x: Stream, read: &[u8], from: usize, table: &mut [u64]) -> Fed
         match seen {
             Sight::More(last) => {
                 return Fed {
-                    stream: pack(calls, held, index, cache, last, end, answer),
+                    stream: pack(calls, counts, held, index, cache, last, end, answer),
                     reply: Reply::More,
                 };
             }
@@ -165,31 +175,27 @@ pub fn records(x: Stream, read: &[u8], from: usize, table: &mut [u64]) -> Fed
                         &calls.row,
                         &calls.since,
                         depth,
-                        calls.rows,
+                        counts.rows,
                         calls.clock,
                         action,
                         id as u64,
                         delta as u64,
                     );
                     match act {
-                        Act::Push { row, rows, clock } => {
-                            calls.row[depth] = row;
-                            calls.since[depth] = clock;
-                            calls = calls.push(rows, clock);
-                        }
-                        Act::Move {
-                            place: at,
+                        Act::Push {
                             row,
-                            since,
+                            rows,
                             depth: left,
                             clock,
                         } => {
-                            calls.row[at] = row;
-                            calls.since[at] = since;
-                            calls = calls.pop(left, clock);
+                            calls.row[depth] = row;
+                            calls.since[depth] = clock;
+                            calls = calls.reach(left, clock);
+                            counts = counts.call(rows);
                         }
                         Act::Pop { depth: left, clock } => {
-                            calls = calls.pop(left, clock);
+                            calls = calls.reach(left, clock);
+                            counts = counts.call(counts.rows);
                         }
                         Act::Refuse(why) => {
                             return refused(form, end, table, why, place);
@@ -198,6 +204,7 @@ pub fn records(x: Stream, read: &[u8], from: usize, table: &mut [u64]) -> Fed
                     way = next;
                 } else {
                     calls = calls.take(record);
+                    counts = counts.take(record);
                     way = next;
                 }
             }

@@ -6,7 +6,7 @@ ghost use mathlib.Core.Bool.{true};
 ghost use Prim.Native.Nat.{_+_, _-_, _*_, _<_, _≤_};
 ghost use lib.ListN.{length, getD};
 ghost use Rattle.replay.specs.Row.{mostRows, cells};
-ghost use Rattle.replay.specs.Private.{pick, Usual, Settling, settled, moveOf};
+ghost use Rattle.replay.specs.Private.{pick, Usual, Settling, settled};
 use crate::acts::Act;
 use crate::calls::DEEPEST;
 use crate::index::BUDGET;
@@ -31,7 +31,8 @@ fn wide(row: u16) -> u64
     row as u64
 }
 
-// Whether a call is a usual one, of the row r: nothing is refused then, and no call abandoned or backward.
+// Whether a call is a usual one, of the row r: nothing is refused then, no call abandoned or backward, and there is room for
+// one more on top, where either is stored.
 pub fn usual<'a>(
     table: &[u64],
     row: &'a [u16; 256],
@@ -57,10 +58,10 @@ pub fn usual<'a>(
     if depth < step {
         return false;
     }
-    let top = depth - step;
-    if DEEPEST <= top {
+    if DEEPEST <= depth {
         return false;
     }
+    let top = depth - step;
     if picked(leaves, wide(row[top])) != picked(leaves, r as u64) {
         return false;
     }
@@ -79,12 +80,13 @@ pub fn settle(
     table: &mut [u64],
     since: &[u64; 256],
     depth: usize,
+    rows: usize,
     leaves: u64,
     r: usize,
     clock: u64,
 ) -> Act
     requires { ⌜ Settling depth leaves r clock (now since) (now table) ⌝ }
-    ensures { λ a. ⌜ a ≡ moveOf depth leaves r clock (now (since .entry)) ⌝ }
+    ensures { λ a. ⌜ a ≡ Act.Push r rows (depth + 1 - leaves - leaves) clock ⌝ }
     ensures { λ a. ⌜ now (table .exit) ≡ settled leaves r (pick leaves clock - pick leaves (getD (now (since .entry)) (depth - leaves) 0)) (now (table .entry)) ⌝ }
 {
     let step = leaves as usize;
@@ -93,10 +95,9 @@ pub fn settle(
     let more = picked(leaves, clock) - from;
     add(table, r, ENTERED + step, 1);
     add(table, r, TICKS, more);
-    Act::Move {
-        place: top,
+    Act::Push {
         row: r as u16,
-        since: from + picked(1 - leaves, clock),
+        rows,
         depth: depth + 1 - step - step,
         clock,
     }

@@ -7,8 +7,9 @@ use lib.Dec.{eqb}
 use lib.ListN.{getD}
 use Rattle.replay.specs.Index.{Indexed}
 use Rattle.replay.specs.Step.{moved}
-use Rattle.replay.specs.Private.{rowsIn, stateAt, Acted, Orders, pick, moveOf}
+use Rattle.replay.specs.Private.{rowsIn, stateAt, Acted, Orders, pick}
 use Rattle.replay.specs.declared.acts.Act.{Act}
+use Rattle.replay.specs.declared.acts.Act.the-variants.{Push}
 use Rattle.replay.proofs.Holding.{fits}
 use Rattle.replay.proofs.Ids.{keeps-leave, orders-kept}
 use Rattle.replay.proofs.Settling.{orders-settled, acted-usual, room-usual, by-leaves}
@@ -100,7 +101,7 @@ returns-2 c = λ most h.
     let small : a .clock + a .delta < 2 ^ 64 = omega (arith, d .before .before .before .before .before .if1 .left) in
     let by = by-leaves (a .action) (omega (arith, d .before .before .before .before .if2 .taken)) in (
       subst (λ (b : Act). Acted (most + 1) (a .rows) (a .depth) (a .row .now) (a .since .now) o (a .table .now) b (c .before .before .settle .last .0)) (sym (e .0))
-          (subst (λ (v : List ℕ). Acted (most + 1) (a .rows) (a .depth) (a .row .now) (a .since .now) o (a .table .now) (moveOf (a .depth) l r (now d) (a .since .now)) v) (sym (e .1))
+          (subst (λ (v : List ℕ). Acted (most + 1) (a .rows) (a .depth) (a .row .now) (a .since .now) o (a .table .now) (Push r (a .rows) (a .depth + 1 - l - l) (now d)) v) (sym (e .1))
           (acted-usual most (a .rows) (a .depth) (now d) (a .row .now) (a .since .now) (a .table .now) (a .id) r (a .index .now) h (s .pre .search .indexed) (eqb (a .action) 2) l (one d) u o
           (λ z. is-entry _ _ _ _ small (by .0 z)) (λ z. is-exit _ _ _ _ small (by .1 z)))),
       subst (λ (b : Act). Orders (a .rows) b (c .before .before .settle .last .0) (a .index .now)) (sym (e .0))

@@ -54,6 +54,9 @@ add-requires c κs =
 cast-t20 : tie.Need-cast-t20
 cast-t20 c = search needs
 
+add-t21 : tie.Need-add-t21
+add-t21 c = search needs
+
 same-length : tie.Need-same-length
 same-length c = search needs
 
@@ -115,11 +118,14 @@ mul-table-4 c = omega (arith, next c, c .if3 .left, long c)
 slice-write-table-2 : tie.Need-slice-write-table-2
 slice-write-table-2 c = omega (arith, next c, c .if3 .left, long c, length-set (start (found c) .args .table .now) (found c .find-row .result * width + id) (start (found c) .args .id))
 
-cast-t27 : tie.Need-cast-t27
-cast-t27 c = omega (arith, next c, c .if3 .left, long c)
+cast-t28 : tie.Need-cast-t28
+cast-t28 c = omega (arith, next c, c .if3 .left, long c)
 
-add-t22 : tie.Need-add-t22
-add-t22 c = search needs
+add-t23 : tie.Need-add-t23
+add-t23 c = search needs
+
+add-t24 : tie.Need-add-t24
+add-t24 c = search needs
 
 same-length-7 : tie.Need-same-length-7
 same-length-7 c = search needs
@@ -152,6 +158,7 @@ enter-spec =
     find-row-requires
     add-requires
     cast-t20
+    add-t21
     same-length
     same-length-2
     same-length-3
@@ -168,8 +175,9 @@ enter-spec =
     add-table-2
     mul-table-4
     slice-write-table-2
-    cast-t27
-    add-t22
+    cast-t28
+    add-t23
+    add-t24
     same-length-7
     same-length-8
     same-length-9

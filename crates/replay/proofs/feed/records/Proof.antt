@@ -18,32 +18,32 @@ use Rattle.replay.specs.Stream.{Stream, stop, fed}
 use Rattle.replay.specs.Sound.{Sound}
 use Rattle.replay.specs.Feeding.{Finds, Sees}
 use Rattle.replay.specs.declared.acts.Act.{Act}
-use Rattle.replay.specs.declared.calls.Calls.{Calls}
+use Rattle.replay.specs.declared.calls.Counts.{Counts}
 use Rattle.replay.specs.declared.reads.Way.{Way}
 use Rattle.replay.specs.declared.reads.Sight.{Sight}
 use Rattle.replay.specs.declared.stream.Fed.{Fed}
 use Rattle.replay.proofs.CheckingState.{parts, state-going, advanced-as}
 use Rattle.replay.proofs.Widths.{Wide, wide}
-use Rattle.replay.proofs.Reading.{Reading, coming, comes-sound, first-holds, first-whole, first-kept, no-call, advanced-kept, sound-stop, more-advanced, is-stopped, early, shorter, reading-taken, is-refused, space, space-move, reading-push, reading-move, reading-pop}
+use Rattle.replay.proofs.Reading.{Reading, coming, comes-sound, first-holds, first-whole, first-kept, no-call, advanced-kept, sound-stop, more-advanced, is-stopped, early, shorter, reading-taken, is-refused, space, reading-push, reading-pop, reading-as}
 use Rattle.replay.proofs.feed.records.Statement.{statement}
 use Rattle.replay.proofs.feed.records.Tie as tie
 
 abbrev Inv-loop : tie.InvT-loop
-Inv-loop read from table₀ base end form answer calls₀ held₀ index₀ cache₀ way₀ table calls held index cache way =
-    Reading base read (coming base read way₀ held₀ calls₀ table₀) table₀ table calls held way × Indexed (rowsIn (calls .rows) table) index × (length index ≡ mostRows) × (length cache ≡ places)
+Inv-loop read from table₀ base end form answer calls₀ counts₀ held₀ index₀ cache₀ way₀ table calls counts held index cache way =
+    Reading base read (coming base read way₀ held₀ calls₀ counts₀ table₀) table₀ table calls counts held way × Indexed (rowsIn (counts .rows) table) index × (length index ≡ mostRows) × (length cache ≡ places)
 
 abbrev μ-loop : tie.MeasureT-loop
-μ-loop read from table₀ base end form answer calls₀ held₀ index₀ cache₀ way₀ table calls held index cache way = length read - way .at .place
+μ-loop read from table₀ base end form answer calls₀ counts₀ held₀ index₀ cache₀ way₀ table calls counts held index cache way = length read - way .at .place
 
 -- The way into the read is found: the places behind it.
 abbrev Entered : Type 0
 Entered = tie.After-way-of Inv-loop μ-loop
 
 abbrev start : Entered → tie.Start Inv-loop μ-loop
-start e = e .before .before .before .before .before .before .before .before .before .before .before .before .before
+start e = e .before .before .before .before .before .before .before .before .before .before .before .before .before .before
 
 abbrev cleared : Entered → tie.After-clear-behind Inv-loop μ-loop
-cleared e = e .before .before .before .before .before .before .before .before .before
+cleared e = e .before .before .before .before .before .before .before .before .before .before
 
 abbrev base : Entered → ℕ
 base e = start e .args .x .offset - start e .args .from
@@ -53,7 +53,7 @@ read e = start e .args .read .now
 
 -- What the read comes to, and what it is to come to.
 abbrev whole : Entered → Stream
-whole e = coming (base e) (read e) (e .way-of .result) (start e .args .x .held) (e .before .before .before .before .calls-of .result) (cleared e .clear-behind .last .0)
+whole e = coming (base e) (read e) (e .way-of .result) (start e .args .x .held) (e .before .before .before .before .before .calls-of .result) (e .before .before .before .before .counts-of .result) (cleared e .clear-behind .last .0)
 
 abbrev goal : Entered → Stream
 goal e = fed (viewed (start e .args .x) (start e .args .table .now)) (drop (start e .args .from) (read e))
@@ -62,7 +62,7 @@ arrays : (e : Entered) → Wide (start e .args .x)
 arrays e = wide (start e .args .x) _ (start e .good .0)
 
 same : (e : Entered) → whole e ≡ goal e
-same e = let p = start e .pre in first-whole _ _ _ _ (p .0) (p .1) (p .2) (arrays e) _ (e .way-of .ensures) _ _ (e .before .before .before .before .calls-of .ensures) (cleared e .clear-behind .ensures)
+same e = let p = start e .pre in first-whole _ _ _ _ (p .0) (p .1) (p .2) (arrays e) _ (e .way-of .ensures) _ _ _ (e .before .before .before .before .before .calls-of .ensures) (e .before .before .before .before .counts-of .ensures) (cleared e .clear-behind .ensures)
 
 sound : (e : Entered) → Sound (base e + length (read e)) (whole e)
 sound e = let p = start e .pre in subst (Sound (base e + length (read e))) (sym (same e)) (comes-sound _ _ _ _ (p .0) (p .1) (p .2) (arrays e))
@@ -113,11 +113,11 @@ finds-call : (k : Call) → Finds (base (entered (seen k))) (read (entered (seen
 finds-call k = subst (λ (r : Record). Finds (base (entered (seen k))) (read (entered (seen k))) (here' k .loop .held) (here' k .loop .way) r (place (seen k)) (next (seen k)) (left (seen k))) (k .before .«record» .given .1) (finds (seen k))
 
 -- There are fewer records than bytes.
-soon : (k : Call) → here' k .loop .calls .records + 1 < 2 ^ 64
-soon k = early _ _ _ _ _ _ _ _ (here' k .loop .inv .0) _ _ _ _ (finds-call k)
+soon : (k : Call) → here' k .loop .counts .records + 1 < 2 ^ 64
+soon k = early _ _ _ _ _ _ _ _ _ (here' k .loop .inv .0) _ _ _ _ (finds-call k)
 
 nearer : (k : Call) → length (read (entered (seen k))) - next (seen k) .at .place < length (read (entered (seen k))) - here' k .loop .way .at .place
-nearer k = shorter _ _ _ _ _ _ _ _ (here' k .loop .inv .0) _ _ _ _ (finds-call k)
+nearer k = shorter _ _ _ _ _ _ _ _ _ (here' k .loop .inv .0) _ _ _ _ (finds-call k)
 
 -- It was acted on.
 abbrev Acted : Type 0
@@ -133,13 +133,10 @@ ready c = c .before .before .before .before .before .before
 abbrev pushing : tie.After-known-told5 Inv-loop μ-loop → Acted
 pushing c = c .before .before .before .before .before .before .before
 
-abbrev moving : tie.After-known-told6 Inv-loop μ-loop → Acted
-moving c = c .before .before .before .before .before .before .before
-
-abbrev popping : tie.After-known-told7 Inv-loop μ-loop → Acted
+abbrev popping : tie.After-known-told6 Inv-loop μ-loop → Acted
 popping c = c .before .before .before .before .before .before .before
 
-abbrev refusing : tie.After-known-told8 Inv-loop μ-loop → Acted
+abbrev refusing : tie.After-known-told7 Inv-loop μ-loop → Acted
 refusing c = c .before .before .before .before .before .before .before
 
 -- The call that it opens has room.
@@ -147,20 +144,14 @@ room : (c : tie.After-known-told5 Inv-loop μ-loop) → here' (told (pushing c))
 room c =
     let d = pushing c in
     let l = here' (told d) .loop in
-    space _ _ _ _ _ _ _ _ (l .inv .0) _ _ _ _ _ _ (finds-call (told d)) _ _ (d .call .ensures _ (l .inv .0 .held) .0) _ _ _ (c .before .act .given .1)
-
-room-move : (c : tie.After-known-told6 Inv-loop μ-loop) → c .before .act2 .given .0 .0 < deepest
-room-move c =
-    let d = moving c in
-    let l = here' (told d) .loop in
-    space-move _ _ _ _ _ _ _ _ (l .inv .0) _ _ _ _ _ _ (finds-call (told d)) _ _ (d .call .ensures _ (l .inv .0 .held) .0) _ _ _ _ _ (c .before .act2 .given .1)
+    space _ _ _ _ _ _ _ _ _ (l .inv .0) _ _ _ _ _ _ (finds-call (told d)) _ _ (d .call .ensures _ (l .inv .0 .held) .0) _ _ _ _ (c .before .act .given .1)
 
 -- It was refused.
-refused-by : (c : tie.After-known-told8 Inv-loop μ-loop) → whole (entered (seen (told (refusing c)))) ≡ stop (numberOf (c .before .act4 .given .0 .0)) (place (seen (told (refusing c))))
+refused-by : (c : tie.After-known-told7 Inv-loop μ-loop) → whole (entered (seen (told (refusing c)))) ≡ stop (numberOf (c .before .act3 .given .0 .0)) (place (seen (told (refusing c))))
 refused-by c =
     let d = refusing c in
     let l = here' (told d) .loop in
-    is-refused _ _ _ _ _ _ _ _ (l .inv .0) _ _ _ _ _ _ (finds-call (told d)) _ _ (d .call .ensures _ (l .inv .0 .held) .0) _ (c .before .act4 .given .1)
+    is-refused _ _ _ _ _ _ _ _ _ (l .inv .0) _ _ _ _ _ _ (finds-call (told d)) _ _ (d .call .ensures _ (l .inv .0 .held) .0) _ (c .before .act3 .given .1)
 
 -- A refusal is seen.
 abbrev Refused : Type 0
@@ -172,7 +163,7 @@ at s = s .before .before .before .before .before
 stopped-by : (s : Refused) → whole (at s .before) ≡ stop (numberOf (s .before .seen2 .given .0 .0)) (s .before .seen2 .given .0 .1 .0)
 stopped-by s =
     let l = at s .loop in
-    is-stopped _ _ _ _ _ _ _ _ (l .inv .0) _ _ (subst (λ (z : Sight). Sees (base (at s .before)) (read (at s .before)) (l .held) (l .way) z (s .before .before .before .look .last .1 .0)) (s .before .seen2 .given .1) (s .before .before .before .look .ensures))
+    is-stopped _ _ _ _ _ _ _ _ _ (l .inv .0) _ _ (subst (λ (z : Sight). Sees (base (at s .before)) (read (at s .before)) (l .held) (l .way) z (s .before .before .before .look .last .1 .0)) (s .before .seen2 .given .1) (s .before .before .before .look .ensures))
 
 clear-behind-requires : tie.Need-clear-behind-requires Inv-loop μ-loop
 clear-behind-requires c κs = let p = c .before .before .before .pre in (parts _ (state-going _ (p .0 .on) (p .0 .low) ∙ p .0 .sound) .counts .few, p .1)
@@ -186,13 +177,16 @@ add-end c = omega (arith, c .before .before .before .before .before .before .bef
 calls-of-requires : tie.Need-calls-of-requires Inv-loop μ-loop
 calls-of-requires c κs = search needs
 
+counts-of-requires : tie.Need-counts-of-requires Inv-loop μ-loop
+counts-of-requires c κs = search needs
+
 way-of-requires : tie.Need-way-of-requires Inv-loop μ-loop
-way-of-requires c κs = let s = c .before .before .before .before .before .before .before .before .before .before .before .before in (s .pre .0, wide (s .args .x) _ (s .good .0) .held)
+way-of-requires c κs = let s = c .before .before .before .before .before .before .before .before .before .before .before .before .before in (s .pre .0, wide (s .args .x) _ (s .good .0) .held)
 
 loop-holds : tie.Need-loop-holds Inv-loop μ-loop
 loop-holds c =
     let p = start c .pre in
-    let h = first-holds _ _ _ _ (p .0) (p .1) (p .2) (arrays c) _ (c .way-of .ensures) _ _ (c .before .before .before .before .calls-of .ensures) (cleared c .clear-behind .ensures) (cleared c .clear-behind .kept .0) in
+    let h = first-holds _ _ _ _ (p .0) (p .1) (p .2) (arrays c) _ (c .way-of .ensures) _ _ _ (c .before .before .before .before .before .calls-of .ensures) (c .before .before .before .before .counts-of .ensures) (cleared c .clear-behind .ensures) (cleared c .clear-behind .kept .0) in
     (h .0, h .1, arrays c .index, arrays c .cache)
 
 look-requires : tie.Need-look-requires Inv-loop μ-loop
@@ -216,7 +210,7 @@ returns c =
     let p = start e .pre .0 in
     let wants = subst (λ (z : Sight). Sees (base e) (read e) (l .held) (l .way) z (m .before .before .before .look .last .1 .0)) (m .before .seen .given .1) (m .before .before .before .look .ensures) in
     answered e _ _ _ _ refl refl
-    (more-advanced _ _ _ _ _ _ _ _ (l .inv .0) _ _ wants _ _ _ (omega (arith, p .low, p .within, p .base)) (sound e) (l .inv .1) _ (c .pack .ensures))
+    (more-advanced _ _ _ _ _ _ _ _ _ (l .inv .0) _ _ wants _ _ _ (omega (arith, p .low, p .within, p .base)) (sound e) (l .inv .1) _ (c .pack .ensures))
 
 enum-known-seen-2 : tie.Need-enum-known-seen-2 Inv-loop μ-loop
 enum-known-seen-2 c = search needs
@@ -253,7 +247,7 @@ call-requires c κs =
     let k = ready c in
     let l = here' k .loop in
     record {
-      most = l .calls .records;
+      most = l .counts .records;
       held = l .inv .0 .held;
       search = record { few = l .inv .0 .held .few; long = l .inv .0 .held .long; wide = l .inv .2; indexed = l .inv .1 };
       wide = l .inv .3;
@@ -275,35 +269,23 @@ mul-calls-2 c = omega (arith, room c)
 element-write-calls-2 : tie.Need-element-write-calls-2 Inv-loop μ-loop
 element-write-calls-2 c = room c
 
-push-requires : tie.Need-push-requires Inv-loop μ-loop
-push-requires c κs = (omega (arith, room c), soon (told (pushing c)))
+reach-requires : tie.Need-reach-requires Inv-loop μ-loop
+reach-requires c κs = search needs
+
+call-requires-2 : tie.Need-call-requires-2 Inv-loop μ-loop
+call-requires-2 c κs = soon (told (pushing (c .before)))
 
 enum-known-act-2 : tie.Need-enum-known-act-2 Inv-loop μ-loop
 enum-known-act-2 c = search needs
 
-mul-calls-3 : tie.Need-mul-calls-3 Inv-loop μ-loop
-mul-calls-3 c = omega (arith, room-move c)
+reach-requires-2 : tie.Need-reach-requires-2 Inv-loop μ-loop
+reach-requires-2 c κs = search needs
 
-element-write-calls-3 : tie.Need-element-write-calls-3 Inv-loop μ-loop
-element-write-calls-3 c = room-move c
-
-mul-calls-4 : tie.Need-mul-calls-4 Inv-loop μ-loop
-mul-calls-4 c = omega (arith, room-move c)
-
-element-write-calls-4 : tie.Need-element-write-calls-4 Inv-loop μ-loop
-element-write-calls-4 c = room-move c
-
-pop-requires : tie.Need-pop-requires Inv-loop μ-loop
-pop-requires c κs = soon (told (moving c))
+call-requires-3 : tie.Need-call-requires-3 Inv-loop μ-loop
+call-requires-3 c κs = soon (told (popping (c .before)))
 
 enum-known-act-3 : tie.Need-enum-known-act-3 Inv-loop μ-loop
 enum-known-act-3 c = search needs
-
-pop-requires-2 : tie.Need-pop-requires-2 Inv-loop μ-loop
-pop-requires-2 c κs = soon (told (popping c))
-
-enum-known-act-4 : tie.Need-enum-known-act-4 Inv-loop μ-loop
-enum-known-act-4 c = search needs
 
 refused-requires-2 : tie.Need-refused-requires-2 Inv-loop μ-loop
 refused-requires-2 c κs =
@@ -325,71 +307,55 @@ returns-3 c =
     answered (entered (seen (told d))) _ _ _ _ (d .call .ensures _ (l .inv .0 .held) .0 .kept ∙ l .inv .0 .kept) (sym (refused-by b)) (c .before .before .refused2 .ensures)
 
 loop-less : tie.Need-loop-less Inv-loop μ-loop
-loop-less c = nearer (told (pushing (c .before)))
+loop-less c = nearer (told (pushing (c .before .before)))
 
 loop-again : tie.Need-loop-again Inv-loop μ-loop
 loop-again c =
-    let d = pushing (c .before) in
+    let d = pushing (c .before .before) in
     let k = told d in
-    let e = entered (seen k) in
     let l = here' k .loop in (
-      subst (λ (x : Calls). Reading (base e) (read e) (whole e) (cleared e .clear-behind .last .0) (d .call .last .0) x (left (seen k)) (next (seen k))) (sym (c .push .ensures))
-          (reading-push _ _ _ _ _ _ _ _ (l .inv .0) _ _ _ _ _ _ (finds-call k) _ _ (d .call .ensures _ (l .inv .0 .held) .0) (d .call .kept .0) _ _ _ (c .before .before .act .given .1)),
-      subst (λ (x : Calls). Indexed (rowsIn (x .rows) (d .call .last .0)) (d .call .last .1 .0)) (sym (c .push .ensures)) (subst (λ (a : Act). Orders (l .calls .rows) a (d .call .last .0) (d .call .last .1 .0)) (c .before .before .act .given .1) (d .call .ensures _ (l .inv .0 .held) .1)),
+      reading-as _ _ _ _ _ _ _ _ _ _ _ (c .before .reach .ensures) (c .call2 .ensures)
+          (reading-push _ _ _ _ _ _ _ _ _ (l .inv .0) _ _ _ _ _ _ (finds-call k) _ _ (d .call .ensures _ (l .inv .0 .held) .0) (d .call .kept .0) _ _ _ _ (c .before .before .before .act .given .1)),
+      subst (λ (x : Counts). Indexed (rowsIn (x .rows) (d .call .last .0)) (d .call .last .1 .0)) (sym (c .call2 .ensures)) (subst (λ (a : Act). Orders (l .counts .rows) a (d .call .last .0) (d .call .last .1 .0)) (c .before .before .before .act .given .1) (d .call .ensures _ (l .inv .0 .held) .1)),
       d .call .kept .1 .0 ∙ l .inv .2,
       d .call .kept .1 .1 .0 ∙ l .inv .3,
     )
 
 loop-less-2 : tie.Need-loop-less-2 Inv-loop μ-loop
-loop-less-2 c = nearer (told (moving (c .before)))
+loop-less-2 c = nearer (told (popping (c .before .before)))
 
 loop-again-2 : tie.Need-loop-again-2 Inv-loop μ-loop
 loop-again-2 c =
-    let d = moving (c .before) in
+    let d = popping (c .before .before) in
     let k = told d in
-    let e = entered (seen k) in
     let l = here' k .loop in (
-      subst (λ (x : Calls). Reading (base e) (read e) (whole e) (cleared e .clear-behind .last .0) (d .call .last .0) x (left (seen k)) (next (seen k))) (sym (c .pop .ensures))
-          (reading-move _ _ _ _ _ _ _ _ (l .inv .0) _ _ _ _ _ _ (finds-call k) _ _ (d .call .ensures _ (l .inv .0 .held) .0) (d .call .kept .0) _ _ _ _ _ (c .before .before .act2 .given .1)),
-      subst (λ (x : Calls). Indexed (rowsIn (x .rows) (d .call .last .0)) (d .call .last .1 .0)) (sym (c .pop .ensures)) (subst (λ (a : Act). Orders (l .calls .rows) a (d .call .last .0) (d .call .last .1 .0)) (c .before .before .act2 .given .1) (d .call .ensures _ (l .inv .0 .held) .1)),
-      d .call .kept .1 .0 ∙ l .inv .2,
-      d .call .kept .1 .1 .0 ∙ l .inv .3,
-    )
-
-loop-less-3 : tie.Need-loop-less-3 Inv-loop μ-loop
-loop-less-3 c = nearer (told (popping (c .before)))
-
-loop-again-3 : tie.Need-loop-again-3 Inv-loop μ-loop
-loop-again-3 c =
-    let d = popping (c .before) in
-    let k = told d in
-    let e = entered (seen k) in
-    let l = here' k .loop in (
-      subst (λ (x : Calls). Reading (base e) (read e) (whole e) (cleared e .clear-behind .last .0) (d .call .last .0) x (left (seen k)) (next (seen k))) (sym (c .pop2 .ensures))
-          (reading-pop _ _ _ _ _ _ _ _ (l .inv .0) _ _ _ _ _ _ (finds-call k) _ _ (d .call .ensures _ (l .inv .0 .held) .0) (d .call .kept .0) _ _ (c .before .before .act3 .given .1)),
-      subst (λ (x : Calls). Indexed (rowsIn (x .rows) (d .call .last .0)) (d .call .last .1 .0)) (sym (c .pop2 .ensures)) (subst (λ (a : Act). Orders (l .calls .rows) a (d .call .last .0) (d .call .last .1 .0)) (c .before .before .act3 .given .1) (d .call .ensures _ (l .inv .0 .held) .1)),
+      reading-as _ _ _ _ _ _ _ _ _ _ _ (c .before .reach2 .ensures) (c .call3 .ensures)
+          (reading-pop _ _ _ _ _ _ _ _ _ (l .inv .0) _ _ _ _ _ _ (finds-call k) _ _ (d .call .ensures _ (l .inv .0 .held) .0) (d .call .kept .0) _ _ (c .before .before .before .act2 .given .1)),
+      subst (λ (x : Counts). Indexed (rowsIn (x .rows) (d .call .last .0)) (d .call .last .1 .0)) (sym (c .call3 .ensures)) (subst (λ (a : Act). Orders (l .counts .rows) a (d .call .last .0) (d .call .last .1 .0)) (c .before .before .before .act2 .given .1) (d .call .ensures _ (l .inv .0 .held) .1)),
       d .call .kept .1 .0 ∙ l .inv .2,
       d .call .kept .1 .1 .0 ∙ l .inv .3,
     )
 
 take-requires : tie.Need-take-requires Inv-loop μ-loop
-take-requires c κs =
-    let d = c .before in
+take-requires c κs = search needs
+
+take-requires-2 : tie.Need-take-requires-2 Inv-loop μ-loop
+take-requires-2 c κs =
+    let d = c .before .before in
     let l = here d .loop in
-    let f = early _ _ _ _ _ _ _ _ (l .inv .0) _ _ _ _ (finds d) in
+    let f = early _ _ _ _ _ _ _ _ _ (l .inv .0) _ _ _ _ (finds d) in
     (f, omega (arith, f, l .inv .0 .fewer))
 
-loop-less-4 : tie.Need-loop-less-4 Inv-loop μ-loop
-loop-less-4 c = let d = c .before .before in shorter _ _ _ _ _ _ _ _ (here d .loop .inv .0) _ _ _ _ (finds d)
+loop-less-3 : tie.Need-loop-less-3 Inv-loop μ-loop
+loop-less-3 c = let d = c .before .before .before in shorter _ _ _ _ _ _ _ _ _ (here d .loop .inv .0) _ _ _ _ (finds d)
 
-loop-again-4 : tie.Need-loop-again-4 Inv-loop μ-loop
-loop-again-4 c =
-    let d = c .before .before in
-    let e = entered d in
+loop-again-3 : tie.Need-loop-again-3 Inv-loop μ-loop
+loop-again-3 c =
+    let d = c .before .before .before in
     let l = here d .loop in (
-      subst (λ (x : Calls). Reading (base e) (read e) (whole e) (cleared e .clear-behind .last .0) (l .table) x (left d) (next d)) (sym (c .take .ensures))
-          (reading-taken _ _ _ _ _ _ _ _ (l .inv .0) _ _ _ _ (finds d) (no-call (d .before .seen3 .given .0 .0) (next d .at) (c .before .match2 .keys2))),
-      subst (λ (x : Calls). Indexed (rowsIn (x .rows) (l .table)) (l .index)) (sym (c .take .ensures)) (l .inv .1),
+      reading-as _ _ _ _ _ _ _ _ _ _ _ (c .before .take .ensures) (c .take2 .ensures)
+          (reading-taken _ _ _ _ _ _ _ _ _ (l .inv .0) _ _ _ _ (finds d) (no-call (d .before .seen3 .given .0 .0) (next d .at) (c .before .before .match2 .keys2))),
+      subst (λ (x : Counts). Indexed (rowsIn (x .rows) (l .table)) (l .index)) (sym (c .take2 .ensures)) (l .inv .1),
       l .inv .2,
       l .inv .3,
     )
@@ -404,6 +370,7 @@ records-spec =
     sub-base
     add-end
     calls-of-requires
+    counts-of-requires
     way-of-requires
     loop-holds
     look-requires
@@ -427,16 +394,12 @@ records-spec =
     element-write-calls
     mul-calls-2
     element-write-calls-2
-    push-requires
+    reach-requires
+    call-requires-2
     enum-known-act-2
-    mul-calls-3
-    element-write-calls-3
-    mul-calls-4
-    element-write-calls-4
-    pop-requires
+    reach-requires-2
+    call-requires-3
     enum-known-act-3
-    pop-requires-2
-    enum-known-act-4
     refused-requires-2
     same-length-3
     returns-3
@@ -444,8 +407,7 @@ records-spec =
     loop-again
     loop-less-2
     loop-again-2
-    loop-less-3
-    loop-again-3
     take-requires
-    loop-less-4
-    loop-again-4)
+    take-requires-2
+    loop-less-3
+    loop-again-3)
