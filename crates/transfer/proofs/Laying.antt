@@ -6,7 +6,7 @@ use native.Mathlib.Omega.{arith}
 use Rattle.replay.specs.declared.Answer.{Answer}
 use Rattle.replay.specs.declared.stream.Stream.{Stream}
 use Rattle.replay.specs.declared.Answer.the-variants.{Report, Refused}
-use Rattle.transfer.specs.Numbers.{answerNumbers, scalars}
+use Rattle.transfer.specs.Numbers.{answerNumbers, joined, scalars}
 use lib.ListN.{length, take, drop, length-append, length-drop}
 use lib.Seq.{take-at, drop-append-add, drop-drop}
 
@@ -50,7 +50,7 @@ abbrev pub p3 : Stream → List ℕ
 p3 x = p2 x ++ x .held
 
 abbrev pub p4 : Stream → List ℕ
-p4 x = p3 x ++ x .row
+p4 x = p3 x ++ joined (x .row)
 
 abbrev pub p5 : Stream → List ℕ
-p5 x = p4 x ++ x .index
+p5 x = p4 x ++ joined (x .index)

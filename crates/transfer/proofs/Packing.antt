@@ -1,5 +1,5 @@
 -- A state's numbers stand for it. Assumes nothing.
-use Prim.Native.Nat.{ℕ, _+_, _-_, _<_, _≤_}
+use Prim.Native.Nat.{ℕ, _+_, _*_, _<_, _≤_}
 use mathlib.Core.Path.{_≡_, refl, sym, ap, _∙_, subst}
 use mathlib.Core.Bool.{Bool, true, false, _&&_, _||_}
 use mathlib.Core.List.{List, [], _∷_, _++_}
@@ -7,8 +7,7 @@ use native.Mathlib.Omega.{arith}
 use borrow.Author.Tests.{lt-ltb, ne-eqb}
 use lib.Dec.{eqb, ltb}
 use lib.ListN.{length, getD, take, drop, length-append, length-drop}
-use lib.Seq.{take-all, drop-at, take-append-le, drop-append-le, getD-drop, getD-take}
-use Rattle.refusal.proofs.Cases.{by-lt}
+use lib.Seq.{take-all, drop-at, take-append-le, drop-append-le, getD-take}
 use Rattle.refusal.specs.Refusal.{numberOf}
 use Rattle.refusal.specs.declared.Refusal.{Refusal}
 use Rattle.refusal.specs.declared.Refusal.the-variants.{LogLength, Version, LogType, BufferSize, PastEnd, UnknownAction, Grammar, Thread, Clock, NoOpenCall, Depth, FunctionCount, Ticks, ShortTable, NoRoom, OutOfRange, NoUnit, NoMeasuredCall, UnknownKind, Offset, Unsound, TextLength, NotJson, Nesting, RepeatedName, WrongKind, IdOutside, RepeatedId, ListCount, Missing, CountSum, TransitionTable, NoTransition, UnmatchedBits, PastWanted, BitsLeft}
@@ -25,10 +24,11 @@ use Rattle.replay.specs.declared.Answer.{Answer}
 use Rattle.replay.specs.declared.Answer.the-variants.{Report, Refused}
 use Rattle.replay.specs.declared.stream.Stream.{Stream}
 use Rattle.replay.proofs.CheckingState.{all-below}
-use Rattle.transfer.specs.Numbers.{among, namedBy, isKnown, orderNumber, stageNumber, stageOf, threadsNumber, threadsOf, overNumber, answerNumbers, isAnswer, answerBy, scalars, numbersOf, streamOf, stands}
+use Rattle.transfer.specs.Numbers.{among, namedBy, isKnown, orderNumber, stageNumber, stageOf, threadsNumber, threadsOf, overNumber, answerNumbers, isAnswer, answerBy, joined, spread, scalars, numbersOf, streamOf, stands}
 use Rattle.transfer.specs.declared.naming.Named.{Named}
 use Rattle.transfer.specs.declared.naming.Named.the-variants.{Known, Unknown}
 use Rattle.transfer.proofs.Copying.{below-all}
+use Rattle.transfer.proofs.Fours.{length-fours, spread-joined}
 use Rattle.transfer.proofs.Laying.{five, p1, p2, p3, p4, p5}
 use Rattle.transfer.proofs.Standing.{arrays, others}
 
@@ -134,15 +134,9 @@ below-at k n limit s l e h b =
     below-all n (drop k s) limit
     (λ j i. subst (λ (v : ℕ). v < limit) (sym (ap (λ (m : List ℕ). getD m j 0) e) ∙ getD-take n (drop k s) j 0 i) (all-below (length l) l limit b j (omega arith)))
 
--- Two runs, one behind the other.
-below-join : (k m n limit : ℕ) (s : List ℕ) → allBelow m (drop k s) limit ≡ true → allBelow n (drop (k + m) s) limit ≡ true → allBelow (m + n) (drop k s) limit ≡ true
-below-join k m n limit s a b = below-all (m + n) (drop k s) limit go
-  where
-    go : (j : ℕ) → j < m + n → getD (drop k s) j 0 < limit
-    go j l = by-lt j m (λ h. all-below m (drop k s) limit a j h) (λ h. omega (arith, getD-drop k s j 0, getD-drop (k + m) s (j - m) 0, ap (λ (i : ℕ). getD s i 0) (at-same j h), all-below n (drop (k + m) s) limit b (j - m) (omega arith)))
-      where
-        at-same : (i : ℕ) → m ≤ i → k + m + (i - m) ≡ k + i
-        at-same i h = omega arith
+-- The same of numbers that stand four in one.
+last-fours : (k n : ℕ) (p s : List ℕ) → length p ≡ k → length s ≡ 4 * n → allBelow (length s) s 65536 ≡ true → spread (take n (drop k (p ++ joined s))) ≡ s
+last-fours k n p s hp hs b = ap spread (last k n p (joined s) hp (length-fours s n hs)) ∙ spread-joined s (omega arith) (all-below (length s) s 65536 b)
 
 all : {a b : Bool} → a ≡ true → b ≡ true → (a && b) ≡ true
 all {a} {b} p q = ap (λ (t : Bool). t && b) p ∙ q
@@ -173,35 +167,35 @@ module _ (x : Stream) (t : Typed x) (rest : List ℕ) where
   l3 : length (p3 x) ≡ 306
   l3 = omega (arith, l2, t .held, length-append (p2 x) (x .held))
 
-  l4 : length (p4 x) ≡ 562
-  l4 = omega (arith, l3, t .row, length-append (p3 x) (x .row))
+  l4 : length (p4 x) ≡ 370
+  l4 = omega (arith, l3, length-fours (x .row) 64 (t .row), length-append (p3 x) (joined (x .row)))
 
-  l5 : length (p5 x) ≡ 1586
-  l5 = omega (arith, l4, t .index, length-append (p4 x) (x .index))
+  l5 : length (p5 x) ≡ 626
+  l5 = omega (arith, l4, length-fours (x .index) 256 (t .index), length-append (p4 x) (joined (x .index)))
 
-  l6 : length (numbersOf x) ≡ 5682
-  l6 = omega (arith, l5, t .cache, length-append (p5 x) (x .cache))
+  l6 : length (numbersOf x) ≡ 1650
+  l6 = omega (arith, l5, length-fours (x .cache) 1024 (t .cache), length-append (p5 x) (joined (x .cache)))
 
-  cache-at : take 4096 (drop 1586 all-numbers) ≡ x .cache
-  cache-at = peel 1586 4096 (numbersOf x) rest (omega (arith, l6)) ∙ last 1586 4096 (p5 x) (x .cache) l5 (t .cache)
+  cache-at : spread (take 1024 (drop 626 all-numbers)) ≡ x .cache
+  cache-at = ap spread (peel 626 1024 (numbersOf x) rest (omega (arith, l6))) ∙ last-fours 626 1024 (p5 x) (x .cache) l5 (t .cache) (t .cached)
 
-  index-at : take 1024 (drop 562 all-numbers) ≡ x .index
-  index-at = peel 562 1024 (numbersOf x) rest (omega (arith, l6)) ∙ peel 562 1024 (p5 x) (x .cache) (omega (arith, l5)) ∙ last 562 1024 (p4 x) (x .index) l4 (t .index)
+  index-at : spread (take 256 (drop 370 all-numbers)) ≡ x .index
+  index-at = ap spread (peel 370 256 (numbersOf x) rest (omega (arith, l6)) ∙ peel 370 256 (p5 x) (joined (x .cache)) (omega (arith, l5))) ∙ last-fours 370 256 (p4 x) (x .index) l4 (t .index) (t .indexed)
 
-  row-at : take 256 (drop 306 all-numbers) ≡ x .row
-  row-at = peel 306 256 (numbersOf x) rest (omega (arith, l6)) ∙ peel 306 256 (p5 x) (x .cache) (omega (arith, l5)) ∙ peel 306 256 (p4 x) (x .index) (omega (arith, l4)) ∙ last 306 256 (p3 x) (x .row) l3 (t .row)
+  row-at : spread (take 64 (drop 306 all-numbers)) ≡ x .row
+  row-at = ap spread (peel 306 64 (numbersOf x) rest (omega (arith, l6)) ∙ peel 306 64 (p5 x) (joined (x .cache)) (omega (arith, l5)) ∙ peel 306 64 (p4 x) (joined (x .index)) (omega (arith, l4))) ∙ last-fours 306 64 (p3 x) (x .row) l3 (t .row) (t .stacked)
 
   held-at : take 32 (drop 274 all-numbers) ≡ x .held
-  held-at = peel 274 32 (numbersOf x) rest (omega (arith, l6)) ∙ peel 274 32 (p5 x) (x .cache) (omega (arith, l5)) ∙ peel 274 32 (p4 x) (x .index) (omega (arith, l4)) ∙ peel 274 32 (p3 x) (x .row) (omega (arith, l3)) ∙ last 274 32 (p2 x) (x .held) l2 (t .held)
+  held-at = peel 274 32 (numbersOf x) rest (omega (arith, l6)) ∙ peel 274 32 (p5 x) (joined (x .cache)) (omega (arith, l5)) ∙ peel 274 32 (p4 x) (joined (x .index)) (omega (arith, l4)) ∙ peel 274 32 (p3 x) (joined (x .row)) (omega (arith, l3)) ∙ last 274 32 (p2 x) (x .held) l2 (t .held)
 
   since-at : take 256 (drop 18 all-numbers) ≡ x .since
-  since-at = peel 18 256 (numbersOf x) rest (omega (arith, l6)) ∙ peel 18 256 (p5 x) (x .cache) (omega (arith, l5)) ∙ peel 18 256 (p4 x) (x .index) (omega (arith, l4)) ∙ peel 18 256 (p3 x) (x .row) (omega (arith, l3)) ∙ peel 18 256 (p2 x) (x .held) (omega (arith, l2)) ∙ last 18 256 (p1 x) (x .since) l1 (t .since)
+  since-at = peel 18 256 (numbersOf x) rest (omega (arith, l6)) ∙ peel 18 256 (p5 x) (joined (x .cache)) (omega (arith, l5)) ∙ peel 18 256 (p4 x) (joined (x .index)) (omega (arith, l4)) ∙ peel 18 256 (p3 x) (joined (x .row)) (omega (arith, l3)) ∙ peel 18 256 (p2 x) (x .held) (omega (arith, l2)) ∙ last 18 256 (p1 x) (x .since) l1 (t .since)
 
   -- The numbers of a state, whatever stands behind them, stand for that state.
   pub unpacked : streamOf all-numbers ≡ x
   unpacked =
       sym
-      (others all-numbers (x .since) (x .held) (x .row) (x .index) (x .cache) (x .form) (x .stage) (x .threads) (x .over) (x .answer) (sym (order-back (x .form .order))) (sym (stage-back (x .stage))) (sym (threads-back (x .threads))) (sym (over-back (x .over))) (sym (answer-back (x .answer) (x .since) (x .held) (x .row) (x .index) (x .cache) rest))
+      (others all-numbers (x .since) (x .held) (x .row) (x .index) (x .cache) (x .form) (x .stage) (x .threads) (x .over) (x .answer) (sym (order-back (x .form .order))) (sym (stage-back (x .stage))) (sym (threads-back (x .threads))) (sym (over-back (x .over))) (sym (answer-back (x .answer) (x .since) (x .held) (joined (x .row)) (joined (x .index)) (joined (x .cache)) rest))
       ∙ arrays all-numbers (x .since) (x .held) (x .row) (x .index) (x .cache) (sym since-at) (sym held-at) (sym row-at) (sym index-at) (sym cache-at))
 
   pub standing : stands all-numbers ≡ true
@@ -211,10 +205,5 @@ module _ (x : Stream) (t : Typed x) (rest : List ℕ) where
       (all (stage-small (x .stage))
       (all (lt-ltb (threadsNumber (x .threads)) 65537 (t .thread))
       (all (over-small (x .over))
-      (all (answer-known (x .answer) (x .since) (x .held) (x .row) (x .index) (x .cache) rest)
-      (all (below-at 274 32 256 all-numbers (x .held) held-at (t .held) (t .bytes))
-      (below-join 306 256 5120 65536 all-numbers
-      (below-at 306 256 65536 all-numbers (x .row) row-at (t .row) (t .stacked))
-      (below-join 562 1024 4096 65536 all-numbers
-      (below-at 562 1024 65536 all-numbers (x .index) index-at (t .index) (t .indexed))
-      (below-at 1586 4096 65536 all-numbers (x .cache) cache-at (t .cache) (t .cached)))))))))
+      (all (answer-known (x .answer) (x .since) (x .held) (joined (x .row)) (joined (x .index)) (joined (x .cache)) rest)
+      (below-at 274 32 256 all-numbers (x .held) held-at (t .held) (t .bytes))))))

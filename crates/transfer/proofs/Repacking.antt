@@ -13,9 +13,10 @@ use Rattle.refusal.specs.Refusal.{numberOf}
 use Rattle.refusal.specs.declared.Refusal.{Refusal}
 use Rattle.fdr.specs.Form.{formOf}
 use Rattle.replay.specs.declared.stream.Stream.{Stream}
-use Rattle.transfer.specs.Numbers.{refusals, among, namedBy, isKnown, orderNumber, stageNumber, stageOf, threadsNumber, threadsOf, overNumber, answerNumbers, answerBy, isAnswer, answerIn, stateLength, scalars, numbersOf, streamOf, stands, Kept}
+use Rattle.transfer.specs.Numbers.{refusals, among, namedBy, isKnown, orderNumber, stageNumber, stageOf, threadsNumber, threadsOf, overNumber, answerNumbers, answerBy, isAnswer, answerIn, joined, spread, stateLength, scalars, numbersOf, streamOf, stands, Kept}
 use Rattle.transfer.specs.declared.naming.Named.{Named}
 use Rattle.transfer.specs.declared.naming.Named.the-variants.{Known, Unknown}
+use Rattle.transfer.proofs.Fours.{joined-spread}
 use Rattle.transfer.proofs.Standing.{stood}
 
 -- Numbers from a place on, one by one.
@@ -89,6 +90,9 @@ answer-again kind a b c d h =
 join : (n m : ℕ) (s p : List ℕ) → p ≡ take n s → p ++ take m (drop n s) ≡ take (n + m) s
 join n m s p e = ap (λ (q : List ℕ). q ++ take m (drop n s)) e ∙ sym (take-add n m s)
 
+join-fours : (n m : ℕ) (s p : List ℕ) → p ≡ take n s → p ++ joined (spread (take m (drop n s))) ≡ take (n + m) s
+join-fours n m s p e = ap (λ (q : List ℕ). p ++ q) (joined-spread (take m (drop n s))) ∙ join n m s p e
+
 module _ (s : List ℕ) (long : stateLength ≤ length s) (e : stands s ≡ true) where
   first-numbers : scalars (streamOf s) ≡ take 13 s
   unfolding streamOf upto
@@ -103,9 +107,9 @@ module _ (s : List ℕ) (long : stateLength ≤ length s) (e : stands s ≡ true
   all-numbers : numbersOf (streamOf s) ≡ take stateLength s
   unfolding streamOf
   all-numbers =
-      join 1586 4096 s _
-      (join 562 1024 s _
-      (join 306 256 s _
+      join-fours 626 1024 s _
+      (join-fours 370 256 s _
+      (join-fours 306 64 s _
       (join 274 32 s _
       (join 18 256 s _
       (ap (λ (q : List ℕ). scalars (streamOf s) ++ q) answer-numbers ∙ join 13 5 s _ first-numbers)))))

@@ -1,14 +1,11 @@
 -- Numbers that stand for a state, test by test. Assumes nothing.
-use Prim.Native.Nat.{ℕ, _+_, _<_, _≤_}
-use mathlib.Core.Path.{_≡_, refl, sym, ap}
+use Prim.Native.Nat.{ℕ, _<_}
+use mathlib.Core.Path.{_≡_, refl, sym}
 use mathlib.Core.Bool.{Bool, true, false, _&&_, true≢false}
 use mathlib.Core.List.{List}
-use native.Mathlib.Nat.{add-assoc}
-use native.Mathlib.Omega.{arith}
 use borrow.Author.Tests.{ltb-true}
 use lib.Dec.{eqb, ltb}
 use lib.ListN.{getD, take, drop}
-use lib.Seq.{getD-drop}
 use Rattle.fdr.specs.Form.{formOf}
 use Rattle.fdr.specs.declared.form.Form.{Form}
 use Rattle.walk.specs.declared.grammar.Stage.{Stage}
@@ -16,14 +13,7 @@ use Rattle.walk.specs.declared.grammar.Threads.{Threads}
 use Rattle.replay.specs.State.{allBelow}
 use Rattle.replay.specs.declared.Answer.{Answer}
 use Rattle.replay.specs.declared.stream.Stream.{Stream}
-use Rattle.transfer.specs.Numbers.{isAnswer, stageOf, threadsOf, answerIn, streamWith, streamOf, stands}
-use Rattle.transfer.proofs.Copying.{under, below-all}
-
--- A part of a run.
-pub below-part : (s : List ℕ) (from n limit k count : ℕ) → allBelow n (drop from s) limit ≡ true → k + count ≤ n → allBelow count (drop (from + k) s) limit ≡ true
-below-part s from n limit k count e h =
-    below-all count (drop (from + k) s) limit
-    (λ j l. omega (arith, getD-drop (from + k) s j 0, ap (λ (i : ℕ). getD s i 0) (add-assoc from k j), under s from n limit (k + j) e (omega arith)))
+use Rattle.transfer.specs.Numbers.{isAnswer, stageOf, threadsOf, answerIn, spread, streamWith, streamOf, stands}
 
 -- What the tests say of each number.
 pub record Stood (s : List ℕ) : Type 0 where
@@ -33,24 +23,22 @@ pub record Stood (s : List ℕ) : Type 0 where
   pub over : getD s 12 0 < 2
   pub answer : isAnswer (getD s 13 0) (getD s 15 0) (getD s 16 0) (getD s 17 0) ≡ true
   pub bytes : allBelow 32 (drop 274 s) 256 ≡ true
-  pub rows : allBelow 5376 (drop 306 s) 65536 ≡ true
 
 pub stood : (s : List ℕ) → stands s ≡ true → Stood s
 unfolding stands
-stood s = go (ltb (getD s 0 0) 2) refl (ltb (getD s 5 0) 5) refl (ltb (getD s 6 0) 65537) refl (ltb (getD s 12 0) 2) refl (isAnswer (getD s 13 0) (getD s 15 0) (getD s 16 0) (getD s 17 0)) refl (allBelow 32 (drop 274 s) 256) refl (allBelow 5376 (drop 306 s) 65536) refl
+stood s = go (ltb (getD s 0 0) 2) refl (ltb (getD s 5 0) 5) refl (ltb (getD s 6 0) 65537) refl (ltb (getD s 12 0) 2) refl (isAnswer (getD s 13 0) (getD s 15 0) (getD s 16 0) (getD s 17 0)) refl (allBelow 32 (drop 274 s) 256) refl
   where
-    go : (a : Bool) → ltb (getD s 0 0) 2 ≡ a → (b : Bool) → ltb (getD s 5 0) 5 ≡ b → (c : Bool) → ltb (getD s 6 0) 65537 ≡ c → (d : Bool) → ltb (getD s 12 0) 2 ≡ d → (e : Bool) → isAnswer (getD s 13 0) (getD s 15 0) (getD s 16 0) (getD s 17 0) ≡ e → (f : Bool) → allBelow 32 (drop 274 s) 256 ≡ f → (g : Bool) → allBelow 5376 (drop 306 s) 65536 ≡ g → (a && (b && (c && (d && (e && (f && g)))))) ≡ true → Stood s
-    go true t true u true v true w true x true y true z h = record { order = ltb-true (getD s 0 0) 2 t; stage = ltb-true (getD s 5 0) 5 u; thread = ltb-true (getD s 6 0) 65537 v; over = ltb-true (getD s 12 0) 2 w; answer = x; bytes = y; rows = z }
-    go false t b u c v d w e x f y g z h = absurd (true≢false (sym h))
-    go true t false u c v d w e x f y g z h = absurd (true≢false (sym h))
-    go true t true u false v d w e x f y g z h = absurd (true≢false (sym h))
-    go true t true u true v false w e x f y g z h = absurd (true≢false (sym h))
-    go true t true u true v true w false x f y g z h = absurd (true≢false (sym h))
-    go true t true u true v true w true x false y g z h = absurd (true≢false (sym h))
-    go true t true u true v true w true x true y false z h = absurd (true≢false (sym h))
+    go : (a : Bool) → ltb (getD s 0 0) 2 ≡ a → (b : Bool) → ltb (getD s 5 0) 5 ≡ b → (c : Bool) → ltb (getD s 6 0) 65537 ≡ c → (d : Bool) → ltb (getD s 12 0) 2 ≡ d → (e : Bool) → isAnswer (getD s 13 0) (getD s 15 0) (getD s 16 0) (getD s 17 0) ≡ e → (f : Bool) → allBelow 32 (drop 274 s) 256 ≡ f → (a && (b && (c && (d && (e && f))))) ≡ true → Stood s
+    go true t true u true v true w true x true y h = record { order = ltb-true (getD s 0 0) 2 t; stage = ltb-true (getD s 5 0) 5 u; thread = ltb-true (getD s 6 0) 65537 v; over = ltb-true (getD s 12 0) 2 w; answer = x; bytes = y }
+    go false t b u c v d w e x f y h = absurd (true≢false (sym h))
+    go true t false u c v d w e x f y h = absurd (true≢false (sym h))
+    go true t true u false v d w e x f y h = absurd (true≢false (sym h))
+    go true t true u true v false w e x f y h = absurd (true≢false (sym h))
+    go true t true u true v true w false x f y h = absurd (true≢false (sym h))
+    go true t true u true v true w true x false y h = absurd (true≢false (sym h))
 
 -- The arrays of a state.
-pub arrays : (s since held row index cache : List ℕ) → since ≡ take 256 (drop 18 s) → held ≡ take 32 (drop 274 s) → row ≡ take 256 (drop 306 s) → index ≡ take 1024 (drop 562 s) → cache ≡ take 4096 (drop 1586 s) → streamWith s since held row index cache ≡ streamOf s
+pub arrays : (s since held row index cache : List ℕ) → since ≡ take 256 (drop 18 s) → held ≡ take 32 (drop 274 s) → row ≡ spread (take 64 (drop 306 s)) → index ≡ spread (take 256 (drop 370 s)) → cache ≡ spread (take 1024 (drop 626 s)) → streamWith s since held row index cache ≡ streamOf s
 unfolding streamOf
 arrays s since held row index cache e1 e2 e3 e4 e5 = rw (e1, e2, e3, e4, e5)
 

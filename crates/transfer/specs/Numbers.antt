@@ -1,5 +1,5 @@
 -- The numbers that C holds for a stream, and the state for which they stand (paper 02, CR 1). Assumes nothing.
-use Prim.Native.Nat.{ℕ, _+_, _-_}
+use Prim.Native.Nat.{ℕ, _+_, _-_, _*_, _/_, _%_}
 use mathlib.Core.Path.{_≡_}
 use mathlib.Core.Bool.{Bool, true, false, _&&_, _||_}
 use mathlib.Core.List.{List, [], _∷_, _++_}
@@ -77,9 +77,22 @@ abbrev pub answerBy : Named → ℕ → ℕ → ℕ → ℕ → Answer
 answerBy (Known r) a b c d = Refused r a
 answerBy Unknown a b c d = Report a b c d
 
--- How many numbers a state is, and where its parts start: 13 numbers, the answer's five, and the arrays.
+-- Numbers of 16 bits, four in one, the first lowest.
+unfoldable pub joined : List ℕ → List ℕ
+joined [] = []
+joined (a ∷ []) = []
+joined (a ∷ b ∷ []) = []
+joined (a ∷ b ∷ c ∷ []) = []
+joined (a ∷ b ∷ c ∷ d ∷ rest) = (a + 65536 * b + 4294967296 * c + 281474976710656 * d) ∷ joined rest
+
+-- Each number as four, the last of them all that is left of it: 16 bits where it has 64.
+unfoldable pub spread : List ℕ → List ℕ
+spread [] = []
+spread (n ∷ rest) = n % 65536 ∷ n / 65536 % 65536 ∷ n / 4294967296 % 65536 ∷ n / 281474976710656 ∷ spread rest
+
+-- How many numbers a state is: 13, the answer's five, and the arrays, of which those of 16 bits stand four in a number.
 abbrev pub stateLength : ℕ
-stateLength = 5682
+stateLength = 1650
 
 abbrev pub scalars : Stream → List ℕ
 scalars x =
@@ -87,7 +100,7 @@ scalars x =
     ∷ x .clock ∷ x .rows ∷ x .records ∷ x .buffers ∷ overNumber (x .over) ∷ []
 
 abbrev pub numbersOf : Stream → List ℕ
-numbersOf x = (((((scalars x ++ answerNumbers (x .answer)) ++ x .since) ++ x .held) ++ x .row) ++ x .index) ++ x .cache
+numbersOf x = (((((scalars x ++ answerNumbers (x .answer)) ++ x .since) ++ x .held) ++ joined (x .row)) ++ joined (x .index)) ++ joined (x .cache)
 
 -- Whether numbers are those of an answer: behind a refusal's place they are zeros.
 unfoldable pub isAnswer : ℕ → ℕ → ℕ → ℕ → Bool
@@ -123,10 +136,10 @@ streamWith s since held row index cache = record {
 
 -- The state for which numbers stand.
 unfoldable pub streamOf : List ℕ → Stream
-streamOf s = streamWith s (take 256 (drop 18 s)) (take 32 (drop 274 s)) (take 256 (drop 306 s)) (take 1024 (drop 562 s)) (take 4096 (drop 1586 s))
+streamOf s = streamWith s (take 256 (drop 18 s)) (take 32 (drop 274 s)) (spread (take 64 (drop 306 s))) (spread (take 256 (drop 370 s))) (spread (take 1024 (drop 626 s)))
 
--- Whether numbers stand for a state: an order, a stage, a thread of 16 bits, a flag, an answer, bytes, and rows of 16 bits.
--- Any number does elsewhere.
+-- Whether numbers stand for a state: an order, a stage, a thread of 16 bits, a flag, an answer, and bytes. Any number does
+-- elsewhere.
 unfoldable pub stands : List ℕ → Bool
 stands s =
     ltb (getD s 0 0) 2
@@ -134,8 +147,7 @@ stands s =
     && (ltb (getD s 6 0) 65537
     && (ltb (getD s 12 0) 2
     && (isAnswer (getD s 13 0) (getD s 15 0) (getD s 16 0) (getD s 17 0)
-    && (allBelow 32 (drop 274 s) 256
-    && allBelow 5376 (drop 306 s) 65536)))))
+    && allBelow 32 (drop 274 s) 256))))
 
 -- A state shorter than its length is 14, before all else; numbers that stand for no state are 22; others have no fault, 0.
 unfoldable pub faultOf : List ℕ → ℕ

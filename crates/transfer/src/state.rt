@@ -5,11 +5,11 @@ ghost use Prim.Native.Nat.{_<_, _≤_};
 ghost use lib.ListN.{length};
 ghost use Rattle.transfer.specs.Numbers.{threadsNumber, answerIn, stateLength, scalars, streamWith, streamOf, stands, faultOf, Kept};
 use crate::parts::all_below;
+use crate::parts::read_fours;
 use crate::parts::read_u8;
-use crate::parts::read_u16;
 use crate::parts::read_u64;
+use crate::parts::write_fours;
 use crate::parts::write_u8;
-use crate::parts::write_u16;
 use crate::parts::write_u64;
 use crate::values::answer_numbers;
 use crate::values::answer_of;
@@ -24,7 +24,7 @@ use fdr::form::Form;
 use replay::Answer;
 use replay::stream::Stream;
 
-pub const LENGTH: usize = 5682;
+pub const LENGTH: usize = 1650;
 
 // Whether numbers stand for a state.
 fn stands(numbers: &[u64]) -> bool
@@ -47,11 +47,7 @@ fn stands(numbers: &[u64]) -> bool
     if !answered {
         return false;
     }
-    let bytes = all_below(numbers, 274, 32, 256);
-    if !bytes {
-        return false;
-    }
-    all_below(numbers, 306, 5376, 65536)
+    all_below(numbers, 274, 32, 256)
 }
 
 // What is wrong with numbers that are lent for a state: 14 or 22, or 0.
@@ -125,11 +121,11 @@ pub fn unpack(numbers: &[u64]) -> Stream
     let mut held = [0u8; 32];
     read_u8(numbers, 274, &mut held);
     let mut row = [0u16; 256];
-    read_u16(numbers, 306, &mut row);
+    read_fours(numbers, 306, &mut row);
     let mut index = [0u16; 1024];
-    read_u16(numbers, 562, &mut index);
+    read_fours(numbers, 370, &mut index);
     let mut cache = [0u16; 4096];
-    read_u16(numbers, 1586, &mut cache);
+    read_fours(numbers, 626, &mut cache);
     with_arrays(numbers, since, held, row, index, cache)
 }
 
@@ -174,7 +170,7 @@ pub fn pack(x: Stream, numbers: &mut [u64])
     write_u64(numbers, 13, &told);
     write_u64(numbers, 18, &x.since);
     write_u8(numbers, 274, &x.held);
-    write_u16(numbers, 306, &x.row);
-    write_u16(numbers, 562, &x.index);
-    write_u16(numbers, 1586, &x.cache);
+    write_fours(numbers, 306, &x.row);
+    write_fours(numbers, 370, &x.index);
+    write_fours(numbers, 626, &x.cache);
 }

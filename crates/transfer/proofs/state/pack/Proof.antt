@@ -4,7 +4,8 @@ use mathlib.Core.Path.{refl, ap, _∙_}
 use mathlib.Core.List.{List, [], _++_}
 use native.Mathlib.Omega.{arith}
 use lib.ListN.{length, take, drop}
-use Rattle.transfer.specs.Numbers.{answerNumbers, stateLength, scalars, numbersOf, streamOf, stands}
+use Rattle.transfer.specs.Numbers.{answerNumbers, joined, stateLength, scalars, numbersOf, streamOf, stands}
+use Rattle.transfer.proofs.Fours.{length-fours}
 use Rattle.transfer.proofs.Laying.{Laid, laid-length, lay, five, p2, p3, p4, p5}
 use Rattle.transfer.proofs.Packing.{Typed, unpacked, standing}
 use borrow.Author.Needs.{needs}
@@ -24,13 +25,13 @@ from3 c = from2 (c .before .before .before .before .before .before .before)
 abbrev from4 : tie.After-write-u8 → tie.Start
 from4 c = from3 (c .before .before .before .before .before .before .before)
 
-abbrev from5 : tie.After-write-u16 → tie.Start
+abbrev from5 : tie.After-write-fours → tie.Start
 from5 c = from4 (c .before .before .before .before .before .before .before)
 
-abbrev from6 : tie.After-write-u162 → tie.Start
+abbrev from6 : tie.After-write-fours2 → tie.Start
 from6 c = from5 (c .before .before .before .before .before .before .before)
 
-abbrev from7 : tie.After-write-u163 → tie.Start
+abbrev from7 : tie.After-write-fours3 → tie.Start
 from7 c = from6 (c .before .before .before .before .before .before .before)
 
 -- The parts so far.
@@ -51,16 +52,16 @@ laid3 c = lay (from3 c .args .t1 .since) _ 256 (laid2 (c .before .before .before
 laid4 : (c : tie.After-write-u8) → Laid (p3 (from4 c .args .t1)) (from4 c .args .numbers .now) (c .write-u8 .last .0) 306
 laid4 c = lay (from4 c .args .t1 .held) _ 32 (laid3 (c .before .before .before .before .before .before .before)) (c .before .write-u8-arg3 .given .0) (c .write-u8 .ensures .0)
 
-laid5 : (c : tie.After-write-u16) → Laid (p4 (from5 c .args .t1)) (from5 c .args .numbers .now) (c .write-u16 .last .0) 562
-laid5 c = lay (from5 c .args .t1 .row) _ 256 (laid4 (c .before .before .before .before .before .before .before)) (c .before .write-u16-arg3 .given .0) (c .write-u16 .ensures .0)
+laid5 : (c : tie.After-write-fours) → Laid (p4 (from5 c .args .t1)) (from5 c .args .numbers .now) (c .write-fours .last .0) 370
+laid5 c = lay (joined (from5 c .args .t1 .row)) _ 64 (laid4 (c .before .before .before .before .before .before .before)) (length-fours (from5 c .args .t1 .row) 64 (c .before .write-fours-arg3 .given .0)) (c .write-fours .ensures .0)
 
-laid6 : (c : tie.After-write-u162) → Laid (p5 (from6 c .args .t1)) (from6 c .args .numbers .now) (c .write-u162 .last .0) 1586
-laid6 c = lay (from6 c .args .t1 .index) _ 1024 (laid5 (c .before .before .before .before .before .before .before)) (c .before .write-u16-arg6 .given .0) (c .write-u162 .ensures .0)
+laid6 : (c : tie.After-write-fours2) → Laid (p5 (from6 c .args .t1)) (from6 c .args .numbers .now) (c .write-fours2 .last .0) 626
+laid6 c = lay (joined (from6 c .args .t1 .index)) _ 256 (laid5 (c .before .before .before .before .before .before .before)) (length-fours (from6 c .args .t1 .index) 256 (c .before .write-fours-arg6 .given .0)) (c .write-fours2 .ensures .0)
 
-laid7 : (c : tie.After-write-u163) → Laid (numbersOf (from7 c .args .t1)) (from7 c .args .numbers .now) (c .write-u163 .last .0) 5682
-laid7 c = lay (from7 c .args .t1 .cache) _ 4096 (laid6 (c .before .before .before .before .before .before .before)) (c .before .write-u16-arg9 .given .0) (c .write-u163 .ensures .0)
+laid7 : (c : tie.After-write-fours3) → Laid (numbersOf (from7 c .args .t1)) (from7 c .args .numbers .now) (c .write-fours3 .last .0) 1650
+laid7 c = lay (joined (from7 c .args .t1 .cache)) _ 1024 (laid6 (c .before .before .before .before .before .before .before)) (length-fours (from7 c .args .t1 .cache) 1024 (c .before .write-fours-arg9 .given .0)) (c .write-fours3 .ensures .0)
 
-typed : (c : tie.After-write-u163) → Typed (from7 c .args .t1)
+typed : (c : tie.After-write-fours3) → Typed (from7 c .args .t1)
 typed c =
     let i = c .before .before .before .before .before .before .before in
     let r = i .before .before .before .before .before .before .before in
@@ -69,13 +70,13 @@ typed c =
     record {
       since = s .before .write-u64-arg5 .given .0;
       held = h .before .write-u8-arg3 .given .0;
-      row = r .before .write-u16-arg3 .given .0;
-      index = i .before .write-u16-arg6 .given .0;
-      cache = c .before .write-u16-arg9 .given .0;
+      row = r .before .write-fours-arg3 .given .0;
+      index = i .before .write-fours-arg6 .given .0;
+      cache = c .before .write-fours-arg9 .given .0;
       bytes = h .write-u8 .ensures .1;
-      stacked = r .write-u16 .ensures .1;
-      indexed = i .write-u162 .ensures .1;
-      cached = c .write-u163 .ensures .1;
+      stacked = r .write-fours .ensures .1;
+      indexed = i .write-fours2 .ensures .1;
+      cached = c .write-fours3 .ensures .1;
       thread = s .before .before .before .before .before .before .before .before .before .before .before .before .before .before .before .before .scalars .ensures .1;
     }
 
@@ -103,18 +104,18 @@ write-u64-requires-3 c κs = search needs
 write-u8-requires : tie.Need-write-u8-requires
 write-u8-requires c κs = search needs
 
-write-u16-requires : tie.Need-write-u16-requires
-write-u16-requires c κs = search needs
+write-fours-requires : tie.Need-write-fours-requires
+write-fours-requires c κs = search needs
 
-write-u16-requires-2 : tie.Need-write-u16-requires-2
-write-u16-requires-2 c κs =
+write-fours-requires-2 : tie.Need-write-fours-requires-2
+write-fours-requires-2 c κs =
     let b = c .before .before .before .before .before .before in
-    omega (arith, c .write-u16-arg6 .given .0, from5 b .pre, laid-length (laid5 b) (omega (arith, from5 b .pre)))
+    omega (arith, c .write-fours-arg6 .given .0, from5 b .pre, laid-length (laid5 b) (omega (arith, from5 b .pre)))
 
-write-u16-requires-3 : tie.Need-write-u16-requires-3
-write-u16-requires-3 c κs =
+write-fours-requires-3 : tie.Need-write-fours-requires-3
+write-fours-requires-3 c κs =
     let b = c .before .before .before .before .before .before in
-    omega (arith, c .write-u16-arg9 .given .0, from6 b .pre, laid-length (laid6 b) (omega (arith, from6 b .pre)))
+    omega (arith, c .write-fours-arg9 .given .0, from6 b .pre, laid-length (laid6 b) (omega (arith, from6 b .pre)))
 
 same-length : tie.Need-same-length
 same-length c =
@@ -141,8 +142,8 @@ pack-spec =
     write-u64-requires-2
     write-u64-requires-3
     write-u8-requires
-    write-u16-requires
-    write-u16-requires-2
-    write-u16-requires-3
+    write-fours-requires
+    write-fours-requires-2
+    write-fours-requires-3
     same-length
     returns)

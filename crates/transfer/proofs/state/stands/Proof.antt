@@ -58,14 +58,7 @@ all-below-requires c κs = search needs
 
 returns-6 : tie.Need-returns-6
 unfolding stands
-returns-6 c = rw (lt-ltb _ _ (c .before .before .before .before .before .before .before .before .before .before .before .before .before .before .if1 .left), lt-ltb _ _ (c .before .before .before .before .before .before .before .before .before .before .before .before .if2 .left), lt-ltb _ _ (c .before .before .before .before .before .before .before .before .before .before .if3 .left), lt-ltb _ _ (c .before .before .before .before .before .before .before .before .if4 .left), sym (c .before .before .before .is-answer .ensures) ∙ not-false _ (c .before .before .if5 .left), sym (c .before .all-below .ensures) ∙ not-true _ (c .if6 .taken), stands)
-
-all-below-requires-2 : tie.Need-all-below-requires-2
-all-below-requires-2 c κs = search needs
-
-returns-7 : tie.Need-returns-7
-unfolding stands
-returns-7 c = rw (lt-ltb _ _ (c .before .before .before .before .before .before .before .before .before .before .before .before .before .before .before .if1 .left), lt-ltb _ _ (c .before .before .before .before .before .before .before .before .before .before .before .before .before .if2 .left), lt-ltb _ _ (c .before .before .before .before .before .before .before .before .before .before .before .if3 .left), lt-ltb _ _ (c .before .before .before .before .before .before .before .before .before .if4 .left), sym (c .before .before .before .before .is-answer .ensures) ∙ not-false _ (c .before .before .before .if5 .left), sym (c .before .before .all-below .ensures) ∙ not-false _ (c .before .if6 .left), stands) (c .all-below2 .ensures)
+returns-6 c = rw (lt-ltb _ _ (c .before .before .before .before .before .before .before .before .before .before .before .before .before .if1 .left), lt-ltb _ _ (c .before .before .before .before .before .before .before .before .before .before .before .if2 .left), lt-ltb _ _ (c .before .before .before .before .before .before .before .before .before .if3 .left), lt-ltb _ _ (c .before .before .before .before .before .before .before .if4 .left), sym (c .before .before .is-answer .ensures) ∙ not-false _ (c .before .if5 .left), stands) (c .all-below .ensures)
 
 pub stands-spec : {M : Type 1} → statement M
 stands-spec =
@@ -83,6 +76,4 @@ stands-spec =
     is-answer-requires
     returns-5
     all-below-requires
-    returns-6
-    all-below-requires-2
-    returns-7)
+    returns-6)
