@@ -15,7 +15,7 @@ enum { LITTLE = TOWERCLOAK_LITTLE_ENDIAN, BIG = TOWERCLOAK_BIG_ENDIAN };
 /* Where the numbers of a state stand. */
 enum {
     ORDER, OFFSET, SIZE, SKIP, COUNT, STAGE, THREAD, DEPTH, CLOCK, ROWS, RECORDS, BUFFERS, OVER, ANSWER, PLACE,
-    SINCE = 18, HELD = 274, ROW = 306, INDEX = 562, CACHE = 1586
+    SINCE = 18, HELD = 274, ROW = 306, INDEX = 370, CACHE = 626
 };
 
 /* Changes to a fresh state: a number's place and what stands there, ended by the state's length. */
@@ -44,7 +44,12 @@ static const struct test tests[] = {
     {"a buffer", {{OFFSET, 96}, {SIZE, 64}, {RECORDS, 4}, {BUFFERS, 1}, LAST}, STATE, TABLE, 0, 0, {0, 1, 4, 0}},
     {"a buffer with a call", {{OFFSET, 96}, {SIZE, 64}, {RECORDS, 6}, {BUFFERS, 1}, {ROWS, 1}, LAST}, STATE, TABLE,
      0, 0, {1, 1, 6, 0}},
-    {"anything in the cache", {{OFFSET, 32}, {CACHE, 65535}, {STATE - 1, 65535}, LAST}, STATE, TABLE, 0, 0, NONE},
+    {"anything in the cache", {{OFFSET, 32}, {CACHE, UINT64_MAX}, {STATE - 1, UINT64_MAX}, LAST}, STATE, TABLE, 0, 0, NONE},
+    {"anything in the rows and the index of none", {{OFFSET, 32}, {ROW, UINT64_MAX}, {INDEX, UINT64_MAX}, LAST},
+     STATE, TABLE, 0, 0, NONE},
+    {"anything behind the first of an index",
+     {{OFFSET, 96}, {SIZE, 64}, {RECORDS, 6}, {BUFFERS, 1}, {ROWS, 1}, {INDEX, UINT64_MAX - 65535}, LAST}, STATE, TABLE,
+     0, 0, {1, 1, 6, 0}},
     {"ended by a refusal", {{OFFSET, 99}, {OVER, 1}, {ANSWER, 10}, {PLACE, 88}, LAST}, STATE, TABLE, 10, 88, NONE},
     {"ended by a report",
      {{OFFSET, 128}, {OVER, 1}, {ANSWER + 1, 2}, {ANSWER + 2, 1}, {ANSWER + 3, 9}, {ANSWER + 4, 3}, LAST},
@@ -60,12 +65,11 @@ static const struct test tests[] = {
     {"refusal 21", {{ANSWER, 21}, LAST}, STATE, TABLE, 22, 0, NONE},
     {"a count behind a place", {{OVER, 1}, {ANSWER, 1}, {ANSWER + 4, 1}, LAST}, STATE, TABLE, 22, 0, NONE},
     {"a byte of 256", {{HELD + 31, 256}, LAST}, STATE, TABLE, 22, 0, NONE},
-    {"a row of 17 bits", {{ROW, 65536}, LAST}, STATE, TABLE, 22, 0, NONE},
-    {"the index, 17 bits", {{INDEX, 65536}, LAST}, STATE, TABLE, 22, 0, NONE},
-    {"the cache's last, 17 bits", {{STATE - 1, 65536}, LAST}, STATE, TABLE, 22, 0, NONE},
     {"no state, and a short table", {{ORDER, 2}, LAST}, STATE, 0, 22, 0, NONE},
     {"a header with a byte too few", {{OFFSET, 31}, LAST}, STATE, TABLE, 22, 0, NONE},
     {"ended by 14", {{OVER, 1}, {ANSWER, 14}, LAST}, STATE, TABLE, 22, 0, NONE},
+    {"an index that names no row",
+     {{OFFSET, 96}, {SIZE, 64}, {RECORDS, 6}, {BUFFERS, 1}, {ROWS, 1}, {INDEX, 1}, LAST}, STATE, TABLE, 22, 0, NONE},
     {"rows that have no entry",
      {{OFFSET, 96}, {SIZE, 64}, {RECORDS, 6}, {BUFFERS, 1}, {ROWS, 2}, {INDEX, 1}, LAST}, STATE, TABLE, 22, 0, NONE},
 };

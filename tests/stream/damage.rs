@@ -71,8 +71,8 @@ impl Damage {
             let (mut state, mut table) = (state.clone(), table.clone());
             let rows = (state[ROWS] as usize).clamp(1, 1024);
             match random.below(4) {
-                0 => damage(random, &mut state[ROW..], 300),
-                1 => damage(random, &mut state[INDEX..], rows),
+                0 => damage(random, &mut state[ROW..], 75),
+                1 => damage(random, &mut state[INDEX..], rows.div_ceil(4)),
                 2 => damage(random, &mut state[SCALARS..], 300),
                 _ => damage(random, &mut table, WIDTH * rows),
             }

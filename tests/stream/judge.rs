@@ -20,7 +20,7 @@ pub const OVER: usize = 12;
 const ANSWER: usize = 13;
 const HELD: usize = 274;
 pub const ROW: usize = 306;
-pub const INDEX: usize = 562;
+pub const INDEX: usize = 370;
 
 /// The numbers of a row of the table.
 pub const WIDTH: usize = 6;
@@ -42,7 +42,13 @@ pub fn stands(state: &[u64]) -> bool {
         && state[OVER] <= 1
         && (answer == 0 || (known && none))
         && state[HELD..ROW].iter().all(|byte| *byte <= 255)
-        && state[ROW..].iter().all(|row| *row <= 65535)
+}
+
+/// So many rows from a place on: four of 16 bits in each number, the first lowest.
+fn rows_from(state: &[u64], place: usize, count: usize) -> Vec<u64> {
+    (0..count)
+        .map(|row| state[place + row / 4] >> (16 * (row % 4)) & 0xFFFF)
+        .collect()
 }
 
 pub fn sound(state: &[u64]) -> bool {
@@ -106,8 +112,8 @@ fn counts(state: &[u64]) -> bool {
 
 fn names(state: &[u64]) -> bool {
     let (depth, rows) = (state[DEPTH] as usize, state[ROWS] as usize);
-    let below = |numbers: &[u64]| numbers.iter().all(|row| *row < state[ROWS]);
-    below(&state[ROW..ROW + depth]) && below(&state[INDEX..INDEX + rows])
+    let below = |numbers: Vec<u64>| numbers.iter().all(|row| *row < state[ROWS]);
+    below(rows_from(state, ROW, depth)) && below(rows_from(state, INDEX, rows))
 }
 
 /// Whether the rows beside a sound state that goes on are sound.
@@ -118,12 +124,8 @@ pub fn rows_sound(state: &[u64], table: &[u64]) -> bool {
     assert!(table.len() >= TABLE, "a whole table");
     let (depth, rows) = (state[DEPTH] as usize, state[ROWS] as usize);
     let row = |number: u64| &table[WIDTH * number as usize..][..WIDTH];
-    let open = |number: u64| {
-        state[ROW..ROW + depth]
-            .iter()
-            .filter(|row| **row == number)
-            .count()
-    };
+    let calls = rows_from(state, ROW, depth);
+    let open = |number: u64| calls.iter().filter(|row| **row == number).count();
     let even = (0..rows as u64).all(|number| {
         let [id, entered, closed, backward, abandoned, _] = *row(number) else {
             unreachable!("six numbers");
@@ -134,7 +136,7 @@ pub fn rows_sound(state: &[u64], table: &[u64]) -> bool {
     let entries: u128 = (0..rows as u64)
         .map(|number| u128::from(row(number)[1]))
         .sum();
-    let ids: Vec<u64> = state[INDEX..INDEX + rows]
+    let ids: Vec<u64> = rows_from(state, INDEX, rows)
         .iter()
         .map(|number| row(*number)[0])
         .collect();
