@@ -17,7 +17,7 @@ extern "C" {
 #endif
 
 /* The first number is also the shared library's, and goes up where programs that call it have to change. */
-#define TOWERCLOAK_VERSION "2.1.0"
+#define TOWERCLOAK_VERSION "2.2.0"
 
 /* The byte order of a log, which its bytes don't tell. A log of one order is refused by 2 as one of the other. */
 enum {

@@ -22,6 +22,8 @@ const SHORT: [usize; 3] = [16384, 65536, 262_144];
 /// The length of the log that comes from a pipe, in parts.
 const PARTS: usize = 4;
 const PART: usize = 256 * MIB;
+/// How often it comes.
+const PIPES: usize = 11;
 
 /// Feeds a log in reads of this length, and tells the end: what must be the whole
 /// replay's table.
@@ -96,9 +98,9 @@ fn told(length: usize, log: &[u8]) -> String {
     }
 }
 
-/// A long log through a pipe, the buffer of sample B over and over: the rate of each
-/// part against the first's, and the peak of memory.
-fn piped() -> Fallible<()> {
+/// A long log through a pipe, the buffer of sample B over and over: the seconds of each
+/// part, and the peak of memory in kB.
+fn piped() -> Fallible<(Vec<f64>, u64)> {
     let program = concat!(env!("CARGO_MANIFEST_DIR"), "/../target/bin/replay_stream");
     let mut child = Command::new(program)
         .stdin(Stdio::piped())
@@ -123,17 +125,29 @@ fn piped() -> Fallible<()> {
     let status = fs::read_to_string(format!("/proc/{}/status", child.id()));
     let status = status.map_err(|error| error.to_string())?;
     let peak = status.lines().find_map(|line| line.strip_prefix("VmHWM:"));
+    let peak = peak.and_then(|peak| peak.trim().trim_end_matches(" kB").parse().ok());
     drop(pipe);
     let ended = child.wait().map_err(|error| error.to_string())?;
-    if !ended.success() {
-        return Err(format!("{program}: {ended}"));
+    match ended.success() {
+        true => Ok((seconds, peak.ok_or("no peak")?)),
+        false => Err(format!("{program}: {ended}")),
     }
-    let rates: Vec<String> = seconds
-        .iter()
-        .map(|time| format!("{:.2}", seconds[0] / time))
+}
+
+/// The rate of each part against the first's, by the median times of all runs, and the
+/// highest peak.
+fn pipes() -> Fallible<()> {
+    let runs = (0..PIPES).map(|_| piped()).collect::<Fallible<Vec<_>>>()?;
+    let median = |part: usize| {
+        let mut seconds: Vec<f64> = runs.iter().map(|run| run.0[part]).collect();
+        seconds.sort_by(f64::total_cmp);
+        seconds[PIPES / 2]
+    };
+    let rates: Vec<String> = (0..PARTS)
+        .map(|part| format!("{:.2}", median(0) / median(part)))
         .collect();
-    let peak = peak.map_or("unknown", str::trim);
-    println!("\n`replay_stream` on {} MiB from a pipe, each {} MiB against the first: rates of {}; peak of memory {peak}.", PARTS * PART / MIB, PART / MIB, rates.join(", "));
+    let peak = runs.iter().map(|run| run.1).max().unwrap_or(0);
+    println!("\n`replay_stream` on {} MiB from a pipe, {PIPES} times, each {} MiB against the first by their median times: rates of {}; peak of memory {peak} kB.", PARTS * PART / MIB, PART / MIB, rates.join(", "));
     Ok(())
 }
 
@@ -157,7 +171,7 @@ fn measure() -> Fallible<()> {
             }
         }
     }
-    piped()
+    pipes()
 }
 
 fn main() -> ExitCode {
