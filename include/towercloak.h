@@ -106,7 +106,7 @@ uint32_t towercloak_header(const uint8_t *log, size_t length, uint32_t order, ui
  * Between two calls it is a state and a table of numbers, both the caller's: each call is lent them as the one before left
  * them. What the numbers of a state mean is for these functions alone. */
 enum {
-    TOWERCLOAK_STATE = 1650, /* the numbers of a state */
+    TOWERCLOAK_STATE = 1138, /* the numbers of a state */
     TOWERCLOAK_MORE = 255    /* the answer of a stream that goes on */
 };
 

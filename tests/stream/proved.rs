@@ -7,7 +7,7 @@ use second::replay;
 use second::stream::Answer;
 
 /// The numbers of a state, and the answer for more, as the header has them.
-pub const NUMBERS: usize = 1650;
+pub const NUMBERS: usize = 1138;
 pub const MORE: u32 = 255;
 
 /// Where in a state the bytes so far stand, and those that are still to be skipped.

@@ -15,7 +15,7 @@ use std::process::{Command, ExitCode, Stdio};
 use std::time::Instant;
 
 /// The numbers of a stream's state, and the answer for more, as the header has them.
-const STATE: usize = 1650;
+const STATE: usize = 1138;
 const MORE: u32 = 255;
 /// The lengths of the logs that are fed one byte at a time.
 const SHORT: [usize; 3] = [16384, 65536, 262_144];

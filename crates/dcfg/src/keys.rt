@@ -1,12 +1,15 @@
 // Two places of a text compared: names by their decoded characters, or ids by their numbers.
 ghost use mathlib.Core.Path.{_≡_};
 ghost use mathlib.Core.List.{[], _∷_};
-ghost use Prim.Native.Nat.{_≤_};
+ghost use Prim.Native.Nat.{_+_, _<_, _≤_};
+ghost use mathlib.Core.Bool.{true};
+ghost use lib.ListN.{length};
 ghost use Rattle.json.specs.Chars.{charsAt};
 ghost use Rattle.dcfg.specs.Repeated.{keyAt};
 ghost use Rattle.sorting.specs.Order.{Ordered};
 ghost use Rattle.dcfg.specs.Order.{ordered};
 ghost use Rattle.dcfg.specs.Private.{Place, Alike};
+ghost use Rattle.dcfg.specs.Spelled.{SameLetters};
 use json::chars::Char;
 use json::chars::char_at;
 use json::chars::is_letter;
@@ -34,6 +37,42 @@ fn later(a: usize, b: usize) -> usize
     if a < b { b } else { a }
 }
 
+// Whether the 16 bytes at two places are the same letters. All are looked at, so that a processor takes them at once.
+fn same_letters(text: &[u8], i: usize, j: usize) -> bool
+    requires { ⌜ (i + 16 ≤ length (now text)) × (j + 16 ≤ length (now text)) ⌝ }
+    ensures { λ r. ⌜ (r ≡ true → SameLetters (now (text .entry)) i j 16) ⌝ }
+{
+    let mut same = true;
+    let mut k: usize = 0;
+    while k < 16 {
+        let x = text[i + k];
+        if x != text[j + k] {
+            same = false;
+        }
+        if !is_letter(x) {
+            same = false;
+        }
+        k += 1;
+    }
+    same
+}
+
+// The first of those that are alike, 16 at a time.
+fn alike_by_16(text: &[u8], a: usize, b: usize, most: usize) -> usize
+    requires { ⌜ (a + most ≤ length (now text)) × (b + most ≤ length (now text)) × (length (now text) < 18446744073709551616) ⌝ }
+    ensures { λ r. ⌜ (r ≤ most) × Alike (now (text .entry)) a b r ⌝ }
+{
+    let mut n: usize = 0;
+    while 16 <= most - n {
+        let same = same_letters(text, a + n, b + n);
+        if !same {
+            return n;
+        }
+        n += 16;
+    }
+    n
+}
+
 // How many characters are alike that are a byte each: most of a name, and nothing is decoded.
 fn alike(text: &[u8], a: usize, b: usize) -> usize
     ensures { λ r. ⌜ Alike (now (text .entry)) a b r ⌝ }
@@ -43,7 +82,7 @@ fn alike(text: &[u8], a: usize, b: usize) -> usize
         return 0;
     }
     let most = text.len() - far;
-    let mut n = 0;
+    let mut n = alike_by_16(text, a, b, most);
     while n < most {
         let i = a + n;
         let j = b + n;

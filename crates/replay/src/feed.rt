@@ -97,7 +97,7 @@ fn pack(
     counts: Counts,
     held: [u8; 32],
     index: [u16; 1024],
-    cache: [u16; 4096],
+    cache: [u16; 2048],
     way: Way,
     offset: u64,
     answer: Answer,

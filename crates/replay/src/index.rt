@@ -15,7 +15,7 @@ use crate::row::WIDTH;
 pub const BUDGET: usize = 16;
 
 // The places of the cache.
-pub const PLACES: usize = 4096;
+pub const PLACES: usize = 2048;
 
 // A row's id, and what is left of a budget.
 pub struct Seen {
@@ -77,7 +77,7 @@ fn halve(index: &[u16], table: &[u64], rows: usize, id: u64, budget: usize) -> F
 fn slot(id: u64) -> usize
     ensures { λ r. ⌜ r < places ⌝ }
 {
-    (id % 4294967296 * 2654435769 / 1048576) as usize % PLACES
+    (id % 4294967296 * 2654435769 / 2097152) as usize % PLACES
 }
 
 // The row that the cache names for an id.

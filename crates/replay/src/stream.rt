@@ -6,7 +6,7 @@ ghost use Prim.Native.Nat.{ℕ, _≤_};
 ghost use lib.ListN.{length};
 ghost use Rattle.replay.specs.Row.{cells};
 ghost use Rattle.replay.specs.State.{viewed, goingSound, stateSound, tableSound, sayingOf, told, Advanced, Blank, Ended, Reportable, reportOf, FeedDoes, EndDoes};
-ghost use Rattle.replay.specs.Packing.{Tests};
+ghost use Rattle.replay.specs.Packing.{Arrays, Tests};
 ghost use Rattle.walk.specs.Walk.{inFront};
 ghost use Rattle.replay.specs.Stream.{fresh, stop, endTold};
 ghost use Rattle.replay.specs.Replay.{refusal, verdictOf};
@@ -64,7 +64,7 @@ pub struct Stream {
     pub buffers: u64,
     // The rows in rising order of their ids, and the cache in front of it, which may hold anything.
     pub index: [u16; 1024],
-    pub cache: [u16; 4096],
+    pub cache: [u16; 2048],
     // Once refused or told the end: the answer.
     pub over: bool,
     pub answer: Answer,
@@ -84,9 +84,9 @@ pub(crate) fn in_front(stage: Stage) -> bool
     false
 }
 
-// A state behind the header.
-fn going_sound(x: Stream) -> bool
-    requires { ⌜ 32 ≤ x .offset ⌝ }
+// A state behind the header. What is lent of it is not copied for the test.
+fn going_sound<'a>(x: Stream, row: &'a [u16], index: &'a [u16]) -> bool
+    requires { ⌜ (32 ≤ x .offset) × Arrays x (now row) (now index) ⌝ }
     ensures { λ r. ⌜ r ≡ goingSound x ⌝ }
 {
     let form = x.form;
@@ -105,15 +105,16 @@ fn going_sound(x: Stream) -> bool
     if !counted {
         return false;
     }
-    let stacked = all_below(&x.row, x.depth, x.rows);
+    let stacked = all_below(row, x.depth, x.rows);
     if !stacked {
         return false;
     }
-    all_below(&x.index, x.rows, x.rows)
+    all_below(index, x.rows, x.rows)
 }
 
 // The test of a state that is handed in.
-fn state_sound(x: Stream) -> bool
+fn state_sound<'a>(x: Stream, row: &'a [u16], index: &'a [u16]) -> bool
+    requires { ⌜ Arrays x (now row) (now index) ⌝ }
     ensures { λ r. ⌜ r ≡ stateSound x ⌝ }
 {
     if x.over {
@@ -123,18 +124,18 @@ fn state_sound(x: Stream) -> bool
     if x.offset < 32 {
         return x.count == x.offset;
     }
-    going_sound(x)
+    going_sound(x, row, index)
 }
 
 // The test of the rows beside a state.
-fn table_sound(x: Stream, table: &[u64]) -> bool
-    requires { ⌜ (stateSound x ≡ true) × (x .over ≡ false) × (cells ≤ length (now table)) ⌝ }
+fn table_sound<'a>(x: Stream, row: &'a [u16], index: &'a [u16], table: &[u64]) -> bool
+    requires { ⌜ (stateSound x ≡ true) × (x .over ≡ false) × (cells ≤ length (now table)) × Arrays x (now row) (now index) ⌝ }
     ensures { λ r. ⌜ r ≡ tableSound x (now (table .entry)) ⌝ }
 {
     if x.offset < 32 {
         return true;
     }
-    let still = still_open(&x.row, x.depth);
+    let still = still_open(row, x.depth);
     let even = rows_sound(table, x.rows, &still);
     if !even {
         return false;
@@ -143,7 +144,7 @@ fn table_sound(x: Stream, table: &[u64]) -> bool
     if !within {
         return false;
     }
-    ids_rise(&x.index, table, x.rows)
+    ids_rise(index, table, x.rows)
 }
 
 // The answer of a stream that has none yet.
@@ -177,7 +178,7 @@ pub(crate) fn blank(form: Form, offset: u64, over: bool, answer: Answer) -> Stre
         records: 0,
         buffers: 0,
         index: [0u16; 1024],
-        cache: [0u16; 4096],
+        cache: [0u16; 2048],
         over,
         answer,
     }
@@ -212,7 +213,7 @@ fn staying(why: Refusal) -> Tested
 fn test(x: Stream, table: &[u64]) -> Tested
     ensures { λ r. ⌜ Tests x (now (table .entry)) r ⌝ }
 {
-    let sound = state_sound(x);
+    let sound = state_sound(x, &x.row, &x.index);
     if !sound {
         return staying(Refusal::Unsound);
     }
@@ -223,7 +224,7 @@ fn test(x: Stream, table: &[u64]) -> Tested
     if table.len() < CELLS {
         return staying(Refusal::ShortTable);
     }
-    let rows = table_sound(x, table);
+    let rows = table_sound(x, &x.row, &x.index, table);
     if !rows {
         return staying(Refusal::Unsound);
     }

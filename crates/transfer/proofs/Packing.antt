@@ -147,7 +147,7 @@ pub record Typed (x : Stream) : Type 0 where
   pub held : length (x .held) ≡ 32
   pub row : length (x .row) ≡ 256
   pub index : length (x .index) ≡ 1024
-  pub cache : length (x .cache) ≡ 4096
+  pub cache : length (x .cache) ≡ 2048
   pub bytes : allBelow (length (x .held)) (x .held) 256 ≡ true
   pub stacked : allBelow (length (x .row)) (x .row) 65536 ≡ true
   pub indexed : allBelow (length (x .index)) (x .index) 65536 ≡ true
@@ -173,11 +173,11 @@ module _ (x : Stream) (t : Typed x) (rest : List ℕ) where
   l5 : length (p5 x) ≡ 626
   l5 = omega (arith, l4, length-fours (x .index) 256 (t .index), length-append (p4 x) (joined (x .index)))
 
-  l6 : length (numbersOf x) ≡ 1650
-  l6 = omega (arith, l5, length-fours (x .cache) 1024 (t .cache), length-append (p5 x) (joined (x .cache)))
+  l6 : length (numbersOf x) ≡ 1138
+  l6 = omega (arith, l5, length-fours (x .cache) 512 (t .cache), length-append (p5 x) (joined (x .cache)))
 
-  cache-at : spread (take 1024 (drop 626 all-numbers)) ≡ x .cache
-  cache-at = ap spread (peel 626 1024 (numbersOf x) rest (omega (arith, l6))) ∙ last-fours 626 1024 (p5 x) (x .cache) l5 (t .cache) (t .cached)
+  cache-at : spread (take 512 (drop 626 all-numbers)) ≡ x .cache
+  cache-at = ap spread (peel 626 512 (numbersOf x) rest (omega (arith, l6))) ∙ last-fours 626 512 (p5 x) (x .cache) l5 (t .cache) (t .cached)
 
   index-at : spread (take 256 (drop 370 all-numbers)) ≡ x .index
   index-at = ap spread (peel 370 256 (numbersOf x) rest (omega (arith, l6)) ∙ peel 370 256 (p5 x) (joined (x .cache)) (omega (arith, l5))) ∙ last-fours 370 256 (p4 x) (x .index) l4 (t .index) (t .indexed)

@@ -107,7 +107,7 @@ module _ (s : List ℕ) (long : stateLength ≤ length s) (e : stands s ≡ true
   all-numbers : numbersOf (streamOf s) ≡ take stateLength s
   unfolding streamOf
   all-numbers =
-      join-fours 626 1024 s _
+      join-fours 626 512 s _
       (join-fours 370 256 s _
       (join-fours 306 64 s _
       (join 274 32 s _

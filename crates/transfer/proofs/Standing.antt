@@ -38,7 +38,7 @@ stood s = go (ltb (getD s 0 0) 2) refl (ltb (getD s 5 0) 5) refl (ltb (getD s 6 
     go true t true u true v true w true x false y h = absurd (true≢false (sym h))
 
 -- The arrays of a state.
-pub arrays : (s since held row index cache : List ℕ) → since ≡ take 256 (drop 18 s) → held ≡ take 32 (drop 274 s) → row ≡ spread (take 64 (drop 306 s)) → index ≡ spread (take 256 (drop 370 s)) → cache ≡ spread (take 1024 (drop 626 s)) → streamWith s since held row index cache ≡ streamOf s
+pub arrays : (s since held row index cache : List ℕ) → since ≡ take 256 (drop 18 s) → held ≡ take 32 (drop 274 s) → row ≡ spread (take 64 (drop 306 s)) → index ≡ spread (take 256 (drop 370 s)) → cache ≡ spread (take 512 (drop 626 s)) → streamWith s since held row index cache ≡ streamOf s
 unfolding streamOf
 arrays s since held row index cache e1 e2 e3 e4 e5 = rw (e1, e2, e3, e4, e5)
 

@@ -92,7 +92,7 @@ spread (n ∷ rest) = n % 65536 ∷ n / 65536 % 65536 ∷ n / 4294967296 % 65536
 
 -- How many numbers a state is: 13, the answer's five, and the arrays, of which those of 16 bits stand four in a number.
 abbrev pub stateLength : ℕ
-stateLength = 1650
+stateLength = 1138
 
 abbrev pub scalars : Stream → List ℕ
 scalars x =
@@ -136,7 +136,7 @@ streamWith s since held row index cache = record {
 
 -- The state for which numbers stand.
 unfoldable pub streamOf : List ℕ → Stream
-streamOf s = streamWith s (take 256 (drop 18 s)) (take 32 (drop 274 s)) (spread (take 64 (drop 306 s))) (spread (take 256 (drop 370 s))) (spread (take 1024 (drop 626 s)))
+streamOf s = streamWith s (take 256 (drop 18 s)) (take 32 (drop 274 s)) (spread (take 64 (drop 306 s))) (spread (take 256 (drop 370 s))) (spread (take 512 (drop 626 s)))
 
 -- Whether numbers stand for a state: an order, a stage, a thread of 16 bits, a flag, an answer, and bytes. Any number does
 -- elsewhere.

@@ -24,7 +24,7 @@ use fdr::form::Form;
 use replay::Answer;
 use replay::stream::Stream;
 
-pub const LENGTH: usize = 1650;
+pub const LENGTH: usize = 1138;
 
 // Whether numbers stand for a state.
 fn stands(numbers: &[u64]) -> bool
@@ -79,7 +79,7 @@ fn with_arrays(
     held: [u8; 32],
     row: [u16; 256],
     index: [u16; 1024],
-    cache: [u16; 4096],
+    cache: [u16; 2048],
 ) -> Stream
     requires { ⌜ (stateLength ≤ length (now numbers)) × (stands (now numbers) ≡ true) ⌝ }
     ensures { λ r. ⌜ r ≡ streamWith (now (numbers .entry)) since held row index cache ⌝ }
@@ -124,7 +124,7 @@ pub fn unpack(numbers: &[u64]) -> Stream
     read_fours(numbers, 306, &mut row);
     let mut index = [0u16; 1024];
     read_fours(numbers, 370, &mut index);
-    let mut cache = [0u16; 4096];
+    let mut cache = [0u16; 2048];
     read_fours(numbers, 626, &mut cache);
     with_arrays(numbers, since, held, row, index, cache)
 }

@@ -25,8 +25,11 @@ returns c = alike-none _ _ _ (omega arith) (omega arith)
 sub-most : tie.Need-sub-most Inv-loop μ-loop
 sub-most c = omega arith
 
+alike-by-16-requires : tie.Need-alike-by-16-requires Inv-loop μ-loop
+alike-by-16-requires c κs = (omega arith, omega arith, omega arith)
+
 loop-holds : tie.Need-loop-holds Inv-loop μ-loop
-loop-holds c = (omega arith, alike-none _ _ _ (omega arith) (omega arith))
+loop-holds c = c .alike-by-16 .ensures
 
 add-i : tie.Need-add-i Inv-loop μ-loop
 add-i c = omega arith
@@ -71,6 +74,7 @@ alike-spec =
     later-requires
     returns
     sub-most
+    alike-by-16-requires
     loop-holds
     add-i
     add-j

@@ -5,15 +5,19 @@ use mathlib.Core.Bool.{true}
 use native.Mathlib.Omega.{arith}
 use borrow.Author.Needs.{needs}
 use borrow.Author.Tests.{not-true, not-false}
-use Rattle.replay.specs.State.{heldSound, placeSound}
+use mathlib.Core.List.{List}
+use Rattle.replay.specs.State.{heldSound, placeSound, allBelow}
 use Rattle.replay.specs.declared.stream.Stream.{Stream}
 use Rattle.replay.proofs.CheckingState.{Held, Placed, Numbered, Stacked, counted, going-held, going-place, going-counts, going-stack, going-index}
 use Rattle.replay.proofs.stream.going_sound.Statement.{statement}
 use Rattle.replay.proofs.stream.going_sound.Tie as tie
 
 -- The state, at each of the tests that it passes.
+abbrev start : tie.After-held-sound → tie.Start
+start c = c .before .before .before .before .before .before
+
 abbrev held : tie.After-held-sound → Stream
-held c = c .before .before .before .before .args .t1
+held c = start c .args .t1
 
 abbrev placed : tie.After-place-sound → Stream
 placed c = held (c .before .before .before)
@@ -35,6 +39,12 @@ ok2 c = sym (was-placed (c .before)) ∙ not-false _ (c .if2 .left)
 
 ok3 : (c : tie.Else3) → Numbered (numbered (c .before)) ≡ true
 ok3 c = sym (c .before .counts-sound .ensures) ∙ not-false _ (c .if3 .left)
+
+abbrev lent : (c : tie.Else3) → tie.Start
+lent c = start (c .before .before .before .before .before .before)
+
+was-stacked : (c : tie.After-all-below) → c .all-below .result ≡ allBelow (numbered (c .before .before) .depth) (numbered (c .before .before) .row) (numbered (c .before .before) .rows)
+was-stacked c = c .all-below .ensures ∙ ap (λ (l : List ℕ). allBelow (numbered (c .before .before) .depth) l (numbered (c .before .before) .rows)) (lent (c .before) .pre .1 .row)
 
 element-copy-out-family-size : tie.Need-element-copy-out-family-size
 element-copy-out-family-size c = search needs
@@ -66,27 +76,26 @@ returns-3 c =
     going-counts (numbered (c .before)) (ok1 (b .before .before .before)) (ok2 b) (sym (c .before .counts-sound .ensures) ∙ not-true _ (c .if3 .taken))
 
 all-below-requires : tie.Need-all-below-requires
-all-below-requires c κs =
-    let d = c .before .before .before in
-    omega (arith, counted _ _ _ _ _ _ (ok3 d) .shallow, c .all-below-arg2 .given .0)
+all-below-requires c κs = omega (arith, counted _ _ _ _ _ _ (ok3 c) .shallow, lent c .pre .1 .deep)
 
 returns-4 : tie.Need-returns-4
 returns-4 c =
-    let d = c .before .before .before .before .before in
+    let d = c .before .before in
     let b = d .before .before in
-    going-stack (numbered (d .before)) (ok1 (b .before .before .before)) (ok2 b) (ok3 d) (sym (c .before .all-below .ensures) ∙ not-true _ (c .if4 .taken))
+    going-stack (numbered (d .before)) (ok1 (b .before .before .before)) (ok2 b) (ok3 d) (sym (was-stacked (c .before)) ∙ not-true _ (c .if4 .taken))
 
 all-below-requires-2 : tie.Need-all-below-requires-2
 all-below-requires-2 c κs =
-    let d = c .before .before .before .before .before .before .before .before in
-    omega (arith, counted _ _ _ _ _ _ (ok3 d) .few, c .all-below-arg4 .given .0)
+    let d = c .before .before in
+    omega (arith, counted _ _ _ _ _ _ (ok3 d) .few, lent d .pre .1 .wide)
 
 returns-5 : tie.Need-returns-5
 returns-5 c =
-    let f = c .before .before .before .before in
-    let d = f .before .before .before .before .before in
+    let f = c .before in
+    let d = f .before .before in
     let b = d .before .before in
-    going-index (numbered (d .before)) (ok1 (b .before .before .before)) (ok2 b) (ok3 d) (sym (f .before .all-below .ensures) ∙ not-false _ (f .if4 .left)) _ (c .all-below2 .ensures)
+    going-index (numbered (d .before)) (ok1 (b .before .before .before)) (ok2 b) (ok3 d) (sym (was-stacked (f .before)) ∙ not-false _ (f .if4 .left)) _
+    (c .all-below2 .ensures ∙ ap (λ (l : List ℕ). allBelow (numbered (d .before) .rows) l (numbered (d .before) .rows)) (lent d .pre .1 .index))
 
 pub going-sound-spec : {M : Type 1} → statement M
 going-sound-spec =

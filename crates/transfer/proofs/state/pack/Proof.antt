@@ -58,8 +58,8 @@ laid5 c = lay (joined (from5 c .args .t1 .row)) _ 64 (laid4 (c .before .before .
 laid6 : (c : tie.After-write-fours2) → Laid (p5 (from6 c .args .t1)) (from6 c .args .numbers .now) (c .write-fours2 .last .0) 626
 laid6 c = lay (joined (from6 c .args .t1 .index)) _ 256 (laid5 (c .before .before .before .before .before .before .before)) (length-fours (from6 c .args .t1 .index) 256 (c .before .write-fours-arg6 .given .0)) (c .write-fours2 .ensures .0)
 
-laid7 : (c : tie.After-write-fours3) → Laid (numbersOf (from7 c .args .t1)) (from7 c .args .numbers .now) (c .write-fours3 .last .0) 1650
-laid7 c = lay (joined (from7 c .args .t1 .cache)) _ 1024 (laid6 (c .before .before .before .before .before .before .before)) (length-fours (from7 c .args .t1 .cache) 1024 (c .before .write-fours-arg9 .given .0)) (c .write-fours3 .ensures .0)
+laid7 : (c : tie.After-write-fours3) → Laid (numbersOf (from7 c .args .t1)) (from7 c .args .numbers .now) (c .write-fours3 .last .0) 1138
+laid7 c = lay (joined (from7 c .args .t1 .cache)) _ 512 (laid6 (c .before .before .before .before .before .before .before)) (length-fours (from7 c .args .t1 .cache) 512 (c .before .write-fours-arg9 .given .0)) (c .write-fours3 .ensures .0)
 
 typed : (c : tie.After-write-fours3) → Typed (from7 c .args .t1)
 typed c =
