@@ -72,7 +72,7 @@ fn halve(index: &[u16], table: &[u64], rows: usize, id: u64, budget: usize) -> F
     }
 }
 
-// The place of an id in the cache: bits 20 to 31 of its product with 2^32 over the golden ratio, so that ids in even
+// The place of an id in the cache: bits 21 to 31 of its product with 2^32 over the golden ratio, so that ids in even
 // steps seldom share one.
 fn slot(id: u64) -> usize
     ensures { λ r. ⌜ r < places ⌝ }
