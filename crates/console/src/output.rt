@@ -14,6 +14,7 @@ pub fn write_bytes<W: Write>(out: &mut W, bytes: &[u8]) -> io::Result<()>
     ensures err { OnErr result (AppendsPart (W.contents out.old) (W.contents out.new) bytes.now) }
 {
     let mut done: usize = 0;
+    // Stays a loop over `write`: std promises nothing of the writer where `write_all` fails, and `err` does.
     while done < bytes.len() {
         let more = out.write(&bytes[done..])?;
         if more == 0 {

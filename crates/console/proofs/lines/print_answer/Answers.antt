@@ -15,14 +15,14 @@ counts_first : (rows buffers records calls : ℕ) (table : List ℕ) → verdict
 counts_first rows buffers records calls table =
     line_first (codes "rows " ++ decimal rows ++ codes " buffers " ++ decimal buffers ++ codes " records " ++ decimal records ++ codes " open " ++ decimal calls) (rows_text width rows table)
 
-pub returns-in_err-print_counts-in-Report-clause-err : goal.returns-in_err-print_counts-in-Report-clause-err
-returns-in_err-print_counts-in-Report-clause-err g c = rw c.in-Report.is
-    (on_err _ (part-of_front _ _ _ _ _ (counts_first c.in-Report.rows c.in-Report.buffers c.in-Report.records c.in-Report.open c.args.table.now) c.in_err-print_counts-in-Report.ensures.err))
+pub returns-in_err-print_counts-in-Ok-clause-err : goal.returns-in_err-print_counts-in-Ok-clause-err
+returns-in_err-print_counts-in-Ok-clause-err g c = rw c.in-Ok.is
+    (on_err _ (part-of_front _ _ _ _ _ (counts_first c.in-Ok.report.rows c.in-Ok.report.buffers c.in-Ok.report.records c.in-Ok.report.«open» c.args.table.now) c.in_err-print_counts-in-Ok.ensures.err))
 
-pub returns-in_ok-print_counts-in-Report-clause-ok : goal.returns-in_ok-print_counts-in-Report-clause-ok
-returns-in_ok-print_counts-in-Report-clause-ok g c = rw c.in-Report.is
-    (ok-behind_same _ _ _ _ _ _ _ (counts_first c.in-Report.rows c.in-Report.buffers c.in-Report.records c.in-Report.open c.args.table.now) c.in_ok-print_counts-in-Report.ensures.ok c.print_rows.ensures.ok)
+pub returns-in_ok-print_counts-in-Ok-clause-ok : goal.returns-in_ok-print_counts-in-Ok-clause-ok
+returns-in_ok-print_counts-in-Ok-clause-ok g c = rw c.in-Ok.is
+    (ok-behind_same _ _ _ _ _ _ _ (counts_first c.in-Ok.report.rows c.in-Ok.report.buffers c.in-Ok.report.records c.in-Ok.report.«open» c.args.table.now) c.in_ok-print_counts-in-Ok.ensures.ok c.print_rows.ensures.ok)
 
-pub returns-in_ok-print_counts-in-Report-clause-err : goal.returns-in_ok-print_counts-in-Report-clause-err
-returns-in_ok-print_counts-in-Report-clause-err g c = rw c.in-Report.is
-    (err-behind_same _ _ _ _ _ _ _ (counts_first c.in-Report.rows c.in-Report.buffers c.in-Report.records c.in-Report.open c.args.table.now) c.in_ok-print_counts-in-Report.ensures.ok c.print_rows.ensures.err)
+pub returns-in_ok-print_counts-in-Ok-clause-err : goal.returns-in_ok-print_counts-in-Ok-clause-err
+returns-in_ok-print_counts-in-Ok-clause-err g c = rw c.in-Ok.is
+    (err-behind_same _ _ _ _ _ _ _ (counts_first c.in-Ok.report.rows c.in-Ok.report.buffers c.in-Ok.report.records c.in-Ok.report.«open» c.args.table.now) c.in_ok-print_counts-in-Ok.ensures.ok c.print_rows.ensures.err)

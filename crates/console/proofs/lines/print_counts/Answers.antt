@@ -16,10 +16,10 @@ halves rows buffers records calls =
 
 pub returns-in_err-print_pair-clause-err : goal.returns-in_err-print_pair-clause-err
 returns-in_err-print_pair-clause-err g c =
-    on_err _ (part-of_front _ _ _ _ _ (halves c.args.rows c.args.buffers c.args.records c.args.calls) c.in_err-print_pair.ensures.err)
+    on_err _ (part-of_front _ _ _ _ _ (halves c.args.report.rows c.args.report.buffers c.args.report.records c.args.report.«open») c.in_err-print_pair.ensures.err)
 
 pub returns-clause-ok : goal.returns-clause-ok
-returns-clause-ok g c = ok-behind_same _ _ _ _ _ _ _ (halves c.args.rows c.args.buffers c.args.records c.args.calls) c.in_ok-print_pair.ensures.ok c.print_pair-2.ensures.ok
+returns-clause-ok g c = ok-behind_same _ _ _ _ _ _ _ (halves c.args.report.rows c.args.report.buffers c.args.report.records c.args.report.«open») c.in_ok-print_pair.ensures.ok c.print_pair-2.ensures.ok
 
 pub returns-clause-err : goal.returns-clause-err
-returns-clause-err g c = err-behind_same _ _ _ _ _ _ _ (halves c.args.rows c.args.buffers c.args.records c.args.calls) c.in_ok-print_pair.ensures.ok c.print_pair-2.ensures.err
+returns-clause-err g c = err-behind_same _ _ _ _ _ _ _ (halves c.args.report.rows c.args.report.buffers c.args.report.records c.args.report.«open») c.in_ok-print_pair.ensures.ok c.print_pair-2.ensures.err
