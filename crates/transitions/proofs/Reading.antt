@@ -1,6 +1,6 @@
 -- A row, read part by part from what stands from its place on. Assumes nothing.
-use Rattle.std.proofs.Common.{◌≡◌, ◌<◌, ◌≤◌, length, ℕ, ◌+◌, ◌-◌, List, ◌∷◌, get_or, take, drop, sym, ap, ap₂, ◌∙◌, arith, length-drop}
-use Rattle.std.proofs.lemmas.List.{take_rest, get_or-drop, drop-drop}
+use Rattle.std.proofs.Common.{◌≡◌, ◌<◌, ◌≤◌, length, ℕ, ◌+◌, ◌-◌, min, List, ◌∷◌, get_or, take, drop, sym, ap, ap₂, ◌∙◌, arith, length-drop}
+use Rattle.std.proofs.lemmas.List.{take_rest, take_min, get_or-drop, drop-drop}
 use Rattle.transitions.specs.Table.{code_length, list_at, list_length, behind, code_at}
 use Rattle.transitions.specs.Key.{IsRow}
 use Rattle.transitions.specs.declared.rows.Row.{Row}
@@ -20,6 +20,11 @@ module _ (t s : List ℕ) (p : ℕ) (within : p ≤ length t) (is : s ≡ take (
 
   behind-two : take (length s - 2) (drop 2 s) ≡ drop (p + 2) t
   behind-two = take_rest s 2 ∙ ap (drop 2) from-place ∙ drop-drop 2 p t
+
+  -- A code is read as far as the table goes.
+  pub code-cut : (n : ℕ) → n ≡ min (get_or s 1 0) (length (take (length s - 2) (drop 2 s))) → take n (take (length s - 2) (drop 2 s)) ≡ code_at t p
+  code-cut n h = let rest : List ℕ = take (length s - 2) (drop 2 s) in
+      ap (λ (k : ℕ). take k rest) h ∙ take_min (get_or s 1 0) rest ∙ ap₂ take (number 1) behind-two
 
   module _ (code rest : List ℕ) (code-is : code ≡ take (get_or s 1 0) (take (length s - 2) (drop 2 s)))
       (rest-is : rest ≡ drop (get_or s 1 0) (take (length s - 2) (drop 2 s))) (two : 2 ≤ length s)

@@ -5,17 +5,14 @@ use Rattle.std.proofs.lemmas.Fn.{always_returns_same}
 use Rattle.sorting.specs.Order.{order, comes_before}
 use Rattle.sorting.proofs.Sorts.{moved, put, ranked}
 use Rattle.sorting.proofs.Swapping.{swaps-each}
-use Rattle.transitions.specs.Key.{Place}
-use Rattle.transitions.specs.Order.{sort_key}
-use Rattle.transitions.proofs.Comparing.{put-rows}
+use Rattle.transitions.specs.Key.{key_at}
 use Rattle.transitions.proofs.order.sort.Goals as goal
 
 pub returns : goal.returns
 returns c =
     let t = c.args.table.now in
-    let by = sort_key t in
-    put-rows t (swaps-each (Place t) (le_refl (length c.args.places.now)) (moved c.sort_unstable_by.ensures.permutation) c.requires)
-    (put by c.sort_unstable_by.ensures.permutation
+    let by = key_at t in
+    put by c.sort_unstable_by.ensures.permutation
     (c.sort_unstable_by.ensures.sorted (comes_before by) (ranked by) (always_returns_same _ _ _ (λ a r f' k.
     let e : r ≡ order by a.0.now a.1.0.now = search rules in
-    (ap is_lt e, search rules)))))
+    (ap is_lt e, search rules))))
