@@ -1,13 +1,21 @@
-use Rattle.std.proofs.Common.{rules, ◌∷◌}
-use Rattle.std.proofs.lemmas.List.Sorted.{IsPartitionPoint-from_clause}
-use Rattle.transitions.specs.Order.{is_up_to}
-use Rattle.transitions.proofs.Halving.{rows-parted, halved}
+use Rattle.transitions.specs.Key.{Place}
+use Rattle.transitions.proofs.Halving.{half-up, half-down}
+use Rattle.transitions.proofs.Adjoining.{run-good}
+use Rattle.std.specs.Ordering.{is_le}
+use mathlib.Core.Path.{sym, ap, ◌∙◌}
+use mathlib.Core.List.{◌∷◌}
+use Prim.Native.Nat.{◌+◌, ◌-◌, ◌/◌}
+use native.Mathlib.Omega.{arith}
 use Rattle.transitions.proofs.indexed.Index.upper.Goals as goal
 
-pub returns : goal.returns
-returns c =
-    let t = c.args.self.table.now in
-    let run = c.args.self.places.now in
-    let key = c.args.edge ∷ c.args.bits.now in
-    halved t run key c.partition_point.result c.partition_point.ensures.bound
-    (IsPartitionPoint-from_clause (is_up_to t key) run c.partition_point.result c.partition_point.ensures.partitioned (rows-parted t run key c.requires.0.sorted) (λ a r f' k. search rules))
+pub against-requires : goal.against-requires
+unfolding Place
+against-requires c = let l = c.loop-low in (run-good c.args.self.table.now c.args.self.places.now c.requires.0 c.requires.1 (l.low + (l.high - l.low) / 2) (omega (arith, l.invariant.within, l.invariant.order))).within
+
+pub loop-low-preserved-then-is_le : goal.loop-low-preserved-then-is_le
+loop-low-preserved-then-is_le c = let l = c.loop-low in
+    half-up c.args.self.table.now c.args.self.places.now (c.args.edge ∷ c.args.bits.now) c.requires.0 l.low l.high (l.low + (l.high - l.low) / 2) l.invariant (omega arith) (omega arith) (ap is_le (sym c.against.ensures) ∙ sym c.is_le.ensures ∙ c.if-is_le.true)
+
+pub loop-low-preserved : goal.loop-low-preserved
+loop-low-preserved c = let l = c.loop-low in
+    half-down c.args.self.table.now c.args.self.places.now (c.args.edge ∷ c.args.bits.now) c.requires.0 l.low l.high (l.low + (l.high - l.low) / 2) l.invariant (omega arith) (omega arith) (ap is_le (sym c.against.ensures) ∙ sym c.is_le.ensures ∙ c.if-is_le.false)
