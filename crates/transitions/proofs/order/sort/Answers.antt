@@ -1,10 +1,8 @@
-use Rattle.std.proofs.Common.{rules, ap, ◌≡◌, length}
-use native.Mathlib.Nat.{le_refl}
+use Rattle.std.proofs.Common.{rules, ap, ◌≡◌}
 use Rattle.std.specs.Ordering.{is_lt}
 use Rattle.std.proofs.lemmas.Fn.{always_returns_same}
 use Rattle.sorting.specs.Order.{order, comes_before}
-use Rattle.sorting.proofs.Sorts.{moved, put, ranked}
-use Rattle.sorting.proofs.Swapping.{swaps-each}
+use Rattle.sorting.proofs.Sorts.{put, ranked}
 use Rattle.transitions.specs.Key.{key_at}
 use Rattle.transitions.proofs.order.sort.Goals as goal
 

@@ -1,5 +1,5 @@
 use Rattle.transitions.proofs.Reading.{code-cut}
-use Rattle.transitions.proofs.rows.code_at.Goals as goal
+use Rattle.transitions.proofs.order.code_at.Goals as goal
 
 pub returns : goal.returns
 returns c = let a = c.in-Some-len2-up.ensures.lookup.0 in
