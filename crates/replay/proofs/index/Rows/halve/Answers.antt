@@ -2,7 +2,8 @@ use mathlib.Core.Path.{◌≡◌, refl, sym, ap, ◌∙◌}
 use native.Mathlib.Omega.{arith}
 use Prim.Native.Nat.{ℕ, suc, ◌+◌, ◌-◌, ◌/◌, ◌<◌}
 use lib.ListN.{get_or}
-use Rattle.replay.specs.Index.{id_of, halved}
+use Rattle.std.specs.Prelude.{Ok}
+use Rattle.replay.specs.Index.{id_of, halved, Told}
 use Rattle.replay.specs.Private.{rows_in}
 use Rattle.replay.proofs.Rows.{length-rows_in}
 use Rattle.replay.proofs.Indexing.{paid, half, shown-id, in-index, halved-over, halved-hit, halved-up, halved-down, told-row, told-none}
@@ -44,7 +45,8 @@ returns-then-seen-id-clause-told c =
     let shown : id_of (rows_in c.args.self.now.count c.args.self.now.cells.now) (get_or c.args.self.now.index.now (c.loop-low.low + (c.loop-low.high - c.loop-low.low) / 2) 0) ≡ c.look-seen.result = shown-id c.args.self.now.count c.args.self.now.cells.now (get_or c.args.self.now.index.now (c.loop-low.low + (c.loop-low.high - c.loop-low.low) / 2) 0) c.look-seen.result among c.look-seen.ensures.shown in
     let spent : suc c.look-seen.new.budget ≡ c.loop-low.budget = omega (arith, c.look-seen.ensures.paid) in
     let on : _ ≡ halved c.args.budget.now (rows_in c.args.self.now.count c.args.self.now.cells.now) c.args.self.now.index.now c.args.id 0 c.args.self.now.count = sym (halved-hit (rows_in c.args.self.now.count c.args.self.now.cells.now) c.args.self.now.index.now _ c.loop-low.low c.loop-low.high _ (omega (arith, c.loop-low-test.true)) (shown ∙ c.if-seen-id.true)) ∙ ap (λ (left : ℕ). halved left (rows_in c.args.self.now.count c.args.self.now.cells.now) c.args.self.now.index.now c.args.id c.loop-low.low c.loop-low.high) spent ∙ c.loop-low.invariant.3 in
-    told-row _ _ _ _ _ on (omega (arith, among, length-rows_in c.args.self.now.count c.args.self.now.cells.now))
+    let told : Told (rows_in c.args.self.now.count c.args.self.now.cells.now) (halved c.args.budget.now (rows_in c.args.self.now.count c.args.self.now.cells.now) c.args.self.now.index.now c.args.id 0 c.args.self.now.count) (Ok (get_or c.args.self.now.index.now (c.loop-low.low + (c.loop-low.high - c.loop-low.low) / 2) 0)) c.look-seen.new.budget = told-row _ _ _ _ _ on (omega (arith, among, length-rows_in c.args.self.now.count c.args.self.now.cells.now)) in
+    record { same = told.same; rest = omega (arith, told.rest) }
 
 pub returns-then-seen-id-clause-within : goal.returns-then-seen-id-clause-within
 returns-then-seen-id-clause-within c =
